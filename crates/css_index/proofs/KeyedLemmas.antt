@@ -10,9 +10,9 @@ use Rattle.std.proofs.lemmas.List.Elements.{Contains-append_left, Contains-appen
 use Rattle.std.proofs.lemmas.List.Folds.{list_any-append}
 use Rattle.std.proofs.lemmas.List.Concat.{flat_map-append}
 use Rattle.std.proofs.lemmas.Slice.Eq.{bytes_eq-Decides}
-use Rattle.css_selectors.specs.AttributeTests.{begins}
-use Rattle.css_selectors.specs.Components.{Selector}
-use Rattle.css_selectors.specs.Components.Comparison.{equals}
+use Rattle.css_selector_text.specs.AttributeTests.{begins}
+use Rattle.css_selector_text.specs.Components.{Selector}
+use Rattle.css_selector_text.specs.Components.Comparison.{equals}
 use Rattle.css_selectors.specs.Documents.{Document}
 use Rattle.css_selectors.specs.Keys.{Key}
 use Rattle.css_selectors.specs.Keys.Key.{by_id, by_class, by_name, by_attribute, by_nothing}

@@ -3,7 +3,7 @@
 use Rattle.std.proofs.Common.{◌≡◌, ℕ, ◌+◌, ◌<◌, ◌≤◌, ◌&&◌, Bool, true, false, IsTrue, Option, None, Some, refl, sym, ap, subst, arith}
 use Rattle.std.specs.Prelude.{not, is_none, is_some, if◌then◌else◌}
 use Rattle.css_selectors.specs.AncestorKeys.{is_only_keys}
-use Rattle.css_selectors.specs.Components.{Selector, parts_from}
+use Rattle.css_selector_text.specs.Components.{Selector, parts_from}
 use Rattle.css_selectors.specs.Costs.{most_tests}
 use Rattle.css_selectors.specs.Documents.{Document}
 use Rattle.css_index.specs.Tested.{has_test, least_of, most_of}

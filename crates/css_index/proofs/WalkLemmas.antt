@@ -19,7 +19,7 @@ use Rattle.css_index.proofs.FileLemmas.{filed_more}
 use Rattle.css_index.proofs.KeyedLemmas.{found_from, any_found_from, any_found_to}
 use Rattle.css_index.specs.Reported.{Reported}
 use Rattle.css_selectors.specs.AncestorKeys.{ancestor_keys, parent_keys}
-use Rattle.css_selectors.specs.Components.{Selector}
+use Rattle.css_selector_text.specs.Components.{Selector}
 use Rattle.css_selectors.specs.Documents.{Document}
 use Rattle.std.specs.Option.{option_map}
 use Rattle.std.proofs.lemmas.Option.{slice_get-map, slice_get_read, slice_get_past}

@@ -9,8 +9,8 @@ use Rattle.std.proofs.lemmas.Slice.Eq.{bytes_eq-Decides}
 use Rattle.css_text.specs.Bytes.{past}
 use Rattle.css_text.specs.Characters.{is_space}
 use Rattle.css_text.proofs.bytes.RunLemmas.{past-stops}
-use Rattle.css_selectors.specs.AttributeTests.{begins, begins_up_to, ends_by, is_word_of, is_some_text, is_satisfied}
-use Rattle.css_selectors.specs.Components.Comparison.{has_word}
+use Rattle.css_selector_text.specs.AttributeTests.{begins, begins_up_to, ends_by, is_word_of, is_some_text, is_satisfied}
+use Rattle.css_selector_text.specs.Components.Comparison.{has_word}
 use Rattle.css_index.specs.internal.Filed.{AreWords}
 
 abbrev pub is_unspaced : ℕ → Bool

@@ -3,7 +3,7 @@
 use Rattle.std.specs.Prelude.{◌≡◌, ◌+◌, ◌≤◌, ℕ, ◌&&◌, not, is_none, if◌then◌else◌, Bool, List, [], Option, None, Some, IsTrue}
 use Rattle.std.specs.List.{list_any, slice_get, sum_by}
 use Rattle.css_selectors.specs.AncestorKeys.{is_only_keys}
-use Rattle.css_selectors.specs.Components.{Selector, parts_from}
+use Rattle.css_selector_text.specs.Components.{Selector, parts_from}
 use Rattle.css_selectors.specs.Costs.{most_tests}
 use Rattle.css_selectors.specs.Documents.{Document}
 use Rattle.css_selectors.specs.Keys.{Key, keys_of}

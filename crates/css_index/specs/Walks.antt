@@ -4,7 +4,7 @@ use Rattle.std.specs.Prelude.{◌≡◌, ◌<◌, ◌↔◌, ⊤, ℕ, List, [],
 use Rattle.std.specs.List.{All, slice_get}
 use Rattle.css_open_elements.specs.Opened.{IsOpen, IsOfLast}
 use Rattle.css_selectors.specs.AncestorKeys.{ancestor_keys, parent_keys}
-use Rattle.css_selectors.specs.Components.{Selector}
+use Rattle.css_selector_text.specs.Components.{Selector}
 use Rattle.css_selectors.specs.Documents.{Document}
 use Rattle.css_selectors.specs.Keys.{Key}
 use Rattle.css_index.specs.Reported.{Reported, reports_key}

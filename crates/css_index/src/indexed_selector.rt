@@ -2,12 +2,12 @@
 ghost use Rattle.std.specs.Prelude.{◌≡◌, ◌⊎◌, ◌+◌, ◌≤◌, ◌↔◌, ◌<◌, Some, IsTrue, is_none, is_some};
 ghost use Rattle.css_selectors.specs.AncestorKeys.{is_only_keys as requires_only_keys};
 ghost use Rattle.css_selectors.specs.AfterKeys.{MatchesFoundBy, begins_with_key as begins_with_key_by};
-ghost use Rattle.css_selectors.specs.Components.{parts_from};
+ghost use Rattle.css_selector_text.specs.Components.{parts_from};
 ghost use Rattle.css_selectors.specs.Costs.{most_tests};
 ghost use Rattle.css_index.specs.Tested.{least_of, most_of};
 
 use crate::Keyed;
-use css_selectors::{Selector, Tests};
+use css_selectors::{Matching, Selector, Tests, begins_with_key, is_only_keys, matches_after_key};
 
 /// A selector, and whether it has to be tested.
 #[derive(Clone, Copy)]
@@ -30,8 +30,8 @@ impl<'s, 'a> IndexedSelector<'s, 'a> {
     {
         IndexedSelector {
             selector,
-            is_only_keys: selector.is_only_keys(),
-            begins_with_key: selector.begins_with_key(),
+            is_only_keys: is_only_keys(selector),
+            begins_with_key: begins_with_key(selector),
         }
     }
 
@@ -48,7 +48,7 @@ impl<'s, 'a> IndexedSelector<'s, 'a> {
             → tests.old < tests.new }
     {
         if self.begins_with_key {
-            self.selector.matches_after_key(element, tests)
+            matches_after_key(self.selector, element, tests)
         } else {
             self.selector.matches_counted(element, tests)
         }

@@ -1,7 +1,7 @@
 //! An index of modern selectors. An element is tested against only those of which it has a key.
 //!
 //! The keys of a selector are ids, classes, and names of elements or attributes, of which each
-//! element that it matches has one (`Selector::push_keys`). [`SelectorIndex`] files the selectors
+//! element that it matches has one (`css_selectors::push_keys`). [`SelectorIndex`] files the selectors
 //! by their keys, and [`SelectorIndex::matching`] finds for an element the indices of exactly the
 //! selectors that match it, in order. The element reports its names by [`Keyed`].
 //!
@@ -25,7 +25,6 @@
 
 mod above;
 mod filed_key;
-mod has_selector;
 mod indexed_selector;
 mod keeping;
 mod key_numbers;
@@ -36,7 +35,7 @@ mod selector_walk;
 mod table;
 mod words;
 
-pub use has_selector::HasSelector;
+pub use css_selector_text::HasSelector;
 pub use keyed::Keyed;
 pub use selector_index::SelectorIndex;
 pub use selector_walk::SelectorWalk;

@@ -25,8 +25,8 @@ pub struct SelectorIndex<'s, 'a> {
 impl<'s, 'a> Model for SelectorIndex<'s, 'a> {
     ghost use Rattle.std.specs.Prelude.{◌≡◌, List, map};
     ghost use Rattle.std.specs.Coded.{Coded, codes};
-    ghost use Rattle.css_selectors.specs.Codes.{condition_code};
-    ghost use Rattle.css_selectors.specs.Components.{Simple, Selector};
+    ghost use Rattle.css_selector_text.specs.Codes.{condition_code};
+    ghost use Rattle.css_selector_text.specs.Components.{Simple, Selector};
     ghost use Rattle.css_index.specs.internal.Filed.{entries_of};
 
     ghost Value = { List Selector };

@@ -19,7 +19,7 @@ use crate::table::Table;
 use crate::{HasSelector, Keyed};
 use css_matching::sort_once;
 use css_open_elements::OpenElements;
-use css_selectors::{Key, Selector, Tests};
+use css_selectors::{Key, Selector, Tests, push_ancestor_keys, push_parent_keys};
 use std::alloc::{AllocError, Global};
 use std::marker::Model;
 
@@ -40,11 +40,11 @@ fn need_of<'s>(
         AreNumbersOf needed.new (parent_keys selector.now) need.parent.items) }
 {
     keys.clear();
-    selector.push_ancestor_keys(keys)?;
+    push_ancestor_keys(selector, keys)?;
     let mut ancestors = Vec::new(alloc);
     needed.push_numbers(keys.as_slice(), found, &mut ancestors)?;
     keys.clear();
-    selector.push_parent_keys(keys)?;
+    push_parent_keys(selector, keys)?;
     let mut parent = Vec::new(alloc);
     needed.push_numbers(keys.as_slice(), found, &mut parent)?;
     Ok(Need {
@@ -112,8 +112,8 @@ pub struct SelectorWalk<'s, 'a> {
 impl<'s, 'a> Model for SelectorWalk<'s, 'a> {
     ghost use Rattle.std.specs.Prelude.{map};
     ghost use Rattle.std.specs.Coded.{Coded, codes};
-    ghost use Rattle.css_selectors.specs.Codes.{condition_code};
-    ghost use Rattle.css_selectors.specs.Components.{Simple};
+    ghost use Rattle.css_selector_text.specs.Codes.{condition_code};
+    ghost use Rattle.css_selector_text.specs.Components.{Simple};
     ghost use Rattle.css_index.specs.Walks.{Walk};
     ghost use Rattle.css_index.specs.internal.Walking.{need_of, IsWalk};
 

@@ -20,7 +20,7 @@ use crate::filed_key::FiledKey;
 use crate::keeping::{Everything, Keeping};
 use crate::key_numbers::number_of;
 use crate::words::{distinct_words, only_word};
-use css_selectors::{Key, Selector};
+use css_selectors::{Key, Selector, push_keys};
 use std::alloc::{AllocError, Global};
 use std::marker::Model;
 
@@ -128,7 +128,7 @@ fn enter_selector<'s>(
         return Ok(());
     }
     keys.clear();
-    selector.push_keys(keys)?;
+    push_keys(selector, keys)?;
     enter(keys.as_slice(), rule, entries)
 }
 

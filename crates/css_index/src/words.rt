@@ -5,8 +5,8 @@ ghost use Rattle.std.specs.List.{prefix_len};
 ghost use Rattle.std.specs.List.Sorted.{IsStrictlySortedBy};
 ghost use Rattle.std.specs.Ordering.{nat_cmp};
 ghost use Rattle.css_text.specs.Characters.{is_space as is_space_byte};
-ghost use Rattle.css_selectors.specs.AttributeTests.{is_satisfied};
-ghost use Rattle.css_selectors.specs.Components.Comparison.{has_word};
+ghost use Rattle.css_selector_text.specs.AttributeTests.{is_satisfied};
+ghost use Rattle.css_selector_text.specs.Components.Comparison.{has_word};
 ghost use Rattle.css_index.specs.internal.Filed.{AreWords};
 
 use css_text::stream::Stream;

@@ -4,7 +4,7 @@ use Rattle.std.proofs.Common.{◌≡◌, ℕ, ◌-◌, Bool, true, false, List, 
 use Rattle.css_syntax.specs.Statements.{SheetText, next_statement, past_between}
 use Rattle.css_syntax.specs.Placed.{placed_statements}
 use Rattle.css_syntax.proofs.PlacedSteps.{placed-statements-some, placed-statements-none}
-use Rattle.css_selectors.specs.Names.{no_names}
+use Rattle.css_selector_text.specs.Names.{no_names}
 use Rattle.css_sheet.specs.declared.import_rules.Import.{Import}
 use Rattle.css_sheet.specs.ImportRules.{ImportText}
 use Rattle.css_sheet.specs.ImportViews.{import_of}

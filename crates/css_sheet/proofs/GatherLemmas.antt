@@ -12,8 +12,8 @@ use Rattle.css_syntax.specs.Statements.{BlockText}
 use Rattle.css_syntax.specs.DeclarationLists.{ItemText, declared, at_rule_item, skipped_item}
 use Rattle.css_cascade.specs.Layers.{LayerPart, LayerText, number_at, or_outermost, outermost_layers, with_name}
 use Rattle.css_syntax.specs.declared.quality.Fault.{Fault}
-use Rattle.css_selectors.specs.Components.{Placed}
-use Rattle.css_selectors.specs.Names.{Names}
+use Rattle.css_selector_text.specs.Components.{Placed}
+use Rattle.css_selector_text.specs.Names.{Names}
 use Rattle.css_sheet.specs.RuleSelectors.{all_read, is_listed, listed_under}
 use Rattle.css_cascade.specs.LayerNames.{layer_names}
 use Rattle.css_cascade.proofs.NameLemmas.{Keeps, grows-name, keeps-then, keeps-itself, keeps-name, keeps-at, name-known, name-there}

@@ -3,8 +3,8 @@
 use Rattle.std.proofs.Common.{◌≡◌, ℕ, suc, ◌-◌, ◌==◌, Bool, true, false, not, ◌&&◌, if◌then◌else◌, List, [], ◌∷◌, ◌++◌, Option, None, Some, Result, Ok, Err, length, take, refl, sym, ap, ◌∙◌, subst, arith, eqb-true}
 use Rattle.css_syntax.specs.declared.quality.Fault.{Fault}
 use Rattle.css_syntax.specs.Parts.{Stated}
-use Rattle.css_selectors.specs.Components.{Placed}
-use Rattle.css_selectors.specs.Names.{Names}
+use Rattle.css_selector_text.specs.Components.{Placed}
+use Rattle.css_selector_text.specs.Names.{Names}
 use Rattle.css_cascade.specs.Layers.{LayerText}
 use Rattle.css_cascade.specs.LayerNames.{block_name}
 use Rattle.css_cascade.proofs.NameLemmas.{Keeps}

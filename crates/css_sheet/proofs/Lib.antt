@@ -15,7 +15,8 @@ mod ContentLemmas
 mod PrintLemmas
 mod SaidLemmas
 mod GatherLemmas
-mod WrittenItems
+pub mod WrittenItems
 pub mod ImportLemmas
 mod FrontLemmas
 mod NamespaceLemmas
+mod NestingVectors

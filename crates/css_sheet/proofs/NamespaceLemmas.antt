@@ -5,7 +5,7 @@ use Rattle.std.proofs.lemmas.List.{take_all}
 use Rattle.css_syntax.specs.Statements.{SheetText, next_statement}
 use Rattle.css_syntax.specs.Placed.{placed_statements}
 use Rattle.css_syntax.proofs.PlacedSteps.{placed-statements-some, placed-statements-none}
-use Rattle.css_selectors.specs.Names.{Names}
+use Rattle.css_selector_text.specs.Names.{Names}
 use Rattle.css_sheet.specs.Imports.{FrontRule, rule_in_front}
 use Rattle.css_sheet.specs.Namespaces.{begun_after, may_follow, names_after, names_from}
 

@@ -6,7 +6,7 @@ use Rattle.css_syntax.specs.Tokens.{spells}
 use Rattle.css_syntax.specs.Statements.{BlockText, AtRuleText, StatementText, rule_set, at_rule_statement, skipped_statement}
 use Rattle.css_syntax.specs.Placed.{PlacedStatement, placed_statements}
 use Rattle.css_cascade.specs.LayerNames.{block_name, layer_names}
-use Rattle.css_selectors.specs.Names.{Names, no_names}
+use Rattle.css_selector_text.specs.Names.{Names, no_names}
 use Rattle.css_sheet.specs.RuleSelectors.{context, is_listed, listed_under}
 use Rattle.css_sheet.specs.SheetItems.{is_layer}
 use Rattle.css_sheet.specs.ImportRules.{UrlText, ImportText, url_here, import_from}

@@ -1,8 +1,8 @@
 -- What contracts see of the names of namespaces that a sheet declares.
 use Rattle.std.specs.Prelude.{ℕ, List, map}
 use Rattle.std.specs.Cow.{cow_str_bytes}
-use Rattle.css_selectors.specs.Names.{Names, no_names}
-use Rattle.css_selectors.specs.NameViews.{prefix_of}
+use Rattle.css_selector_text.specs.Names.{Names, no_names}
+use Rattle.css_selector_text.specs.NameViews.{prefix_of}
 use Rattle.css_sheet.specs.declared.namespaces.OwnPrefix.{OwnPrefix}
 use Rattle.css_sheet.specs.declared.namespaces.SheetNamespaces.{SheetNamespaces}
 use Rattle.css_sheet.specs.declared.namespaces.DeclaredNamespaces.{DeclaredNamespaces}

@@ -6,7 +6,7 @@ use Rattle.std.specs.Str.{bytes_eq}
 use Rattle.css_syntax.specs.Escapes.{decoded}
 use Rattle.css_syntax.specs.Placed.{PlacedStatement, placed_statements}
 use Rattle.css_cascade.specs.LayerNames.{is_empty}
-use Rattle.css_selectors.specs.Names.{Names, no_names, unknown_namespace}
+use Rattle.css_selector_text.specs.Names.{Names, no_names, unknown_namespace}
 use Rattle.css_sheet.specs.NamespaceRules.{NamespaceText, decoded_url}
 use Rattle.css_sheet.specs.Imports.{FrontRule, import_rule, namespace_rule, layer_list, other_rule, not_a_rule, rule_in_front}
 use Rattle.css_sheet.specs.Sheets.{SheetText}

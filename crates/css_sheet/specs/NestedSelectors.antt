@@ -1,9 +1,9 @@
 -- What `&` stands for in the rules in a style rule (CSS Nesting 1, section 3).
 use Rattle.std.specs.Prelude.{ℕ, List, [], ◌∷◌, Option, Some, None}
 use Rattle.std.specs.List.{filter_map}
-use Rattle.css_selectors.specs.declared.components.Nesting.{Nesting}
-use Rattle.css_selectors.specs.Components.{Selector}
-use Rattle.css_selectors.specs.Specificities.{Counts, greater, nothing, specificity, sum_up_to}
+use Rattle.css_selector_text.specs.declared.components.Nesting.{Nesting}
+use Rattle.css_selector_text.specs.Components.{Selector}
+use Rattle.css_selector_text.specs.Specificities.{Counts, greater, nothing, specificity, sum_up_to}
 use Rattle.css_sheet.specs.RuleSelectors.{SelectorRead}
 
 -- a pseudo-element counts as a name
@@ -20,11 +20,6 @@ counts_with pseudo_element (Some s) = with_element (specificity s) pseudo_elemen
 abbrev pub read_counts : SelectorRead → Counts
 read_counts read = counts_with read.pseudo_element read.selector
 
--- the greatest that these count, or what is counted so far
-abbrev pub greatest_read : Counts → List SelectorRead → Counts
-greatest_read so_far [] = so_far
-greatest_read so_far (read ∷ more) = greatest_read (greater so_far (read_counts read)) more
-
 -- no pseudo-element is an element
 abbrev pub if_of_elements : Option (List ℕ) → Option Selector → Option Selector
 if_of_elements None selector = selector
@@ -38,8 +33,16 @@ element_selector read = if_of_elements read.pseudo_element read.selector
 abbrev pub element_selectors : List SelectorRead → List Selector
 element_selectors all = filter_map element_selector all
 
--- What `&` stands for there, where that list has this number: it counts as the greatest of them all, those
--- with a pseudo-element too.
+-- the greatest that these count, or what is counted so far
+abbrev pub greatest_of : Counts → List Selector → Counts
+greatest_of so_far [] = so_far
+greatest_of so_far (s ∷ selectors) = greatest_of (greater so_far (specificity s)) selectors
+
+-- What `&` counts there. As in `:is()`, selectors with a pseudo-element do not count (section 3.1).
+abbrev pub nesting_counts : List SelectorRead → Counts
+nesting_counts all = greatest_of nothing (element_selectors all)
+
+-- what `&` stands for there, where that list has this number
 abbrev pub list_numbered : (number : ℕ) → Counts → Nesting
 list_numbered number counts = record {
   number = number;

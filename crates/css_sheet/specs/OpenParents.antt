@@ -3,13 +3,12 @@
 use Rattle.std.specs.Prelude.{◌+◌, ◌-◌, Bool, true, false, not, ◌&&◌, ◌==◌, if◌then◌else◌, List, [], ◌∷◌, ◌++◌, length, take, slice_get, Option, Some, None, Result, Ok, Err}
 use Rattle.css_syntax.specs.declared.quality.Fault.{Fault}
 use Rattle.css_syntax.specs.Parts.{Stated}
-use Rattle.css_selectors.specs.declared.components.Nesting.{Nesting}
-use Rattle.css_selectors.specs.Components.{Selector}
-use Rattle.css_selectors.specs.Specificities.{nothing}
+use Rattle.css_selector_text.specs.declared.components.Nesting.{Nesting}
+use Rattle.css_selector_text.specs.Components.{Selector}
 use Rattle.css_sheet.specs.SheetItems.{is_layer}
-use Rattle.css_selectors.specs.Names.{Names}
+use Rattle.css_selector_text.specs.Names.{Names}
 use Rattle.css_sheet.specs.RuleSelectors.{SelectorRead, ListContext, context, is_listed, listed_under, selectors_under}
-use Rattle.css_sheet.specs.NestedSelectors.{element_selectors, greatest_read, list_numbered}
+use Rattle.css_sheet.specs.NestedSelectors.{element_selectors, nesting_counts, list_numbered}
 use Rattle.css_sheet.specs.SheetParts.{OpenText, RuleKind, style_rule, group_rule, SheetPart, states, begins, ends, stands, PlacedPart, applies_in}
 
 -- What is known of the list of selectors of a style rule: nothing, as long as it was not needed; that it is
@@ -57,7 +56,7 @@ with_selectors parents prelude under (Err fault) =
 with_selectors parents prelude under (Ok all) = record {
   innermost =
       style prelude under
-      (numbered (list_numbered (length parents.lists + 1) (greatest_read nothing all)));
+      (numbered (list_numbered (length parents.lists + 1) (nesting_counts all)));
   outer = parents.outer;
   lists = parents.lists ++ element_selectors all ∷ [];
 }

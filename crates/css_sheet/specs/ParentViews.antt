@@ -7,7 +7,7 @@ use Rattle.css_sheet.specs.declared.parents.OwnList.TheVariants as lists
 use Rattle.css_sheet.specs.declared.parents.Parent.{Parent}
 use Rattle.css_sheet.specs.declared.parents.Parent.TheVariants as parents
 use Rattle.css_sheet.specs.declared.parents.OpenParents.{OpenParents}
-use Rattle.css_selectors.specs.NameViews.{names_of}
+use Rattle.css_selector_text.specs.NameViews.{names_of}
 use Rattle.css_sheet.specs.RuleSelectors.{context}
 use Rattle.css_sheet.specs.OpenParents.{ParentsText, no_rule, dropped, style, unread, valid, numbered}
 use Rattle.css_sheet.specs.OpenParents.{Parent as ParentText, OwnList as OwnText}

@@ -8,14 +8,14 @@ use Rattle.css_syntax.specs.declared.quality.Fault.TheVariants.{InvalidSelector}
 use Rattle.css_syntax.specs.Parts.{Stated}
 use Rattle.css_syntax.specs.Qualities.{is_good, fault_of}
 use Rattle.css_syntax.specs.Tokens.{past_gap}
-use Rattle.css_selectors.specs.declared.components.Nesting.{Nesting}
-use Rattle.css_selectors.specs.Components.{Placed, PseudoElement, Selector}
-use Rattle.css_selectors.specs.Grammar.{placed_list}
-use Rattle.css_selectors.specs.Names.{Names, no_names}
-use Rattle.css_selectors.specs.Nested.{nested_list}
-use Rattle.css_selectors.specs.Originating.{originating}
-use Rattle.css_selectors.specs.Readings.{Reading, got, refused, Reader}
-use Rattle.css_selectors.specs.Supported.{is_last_condition, is_supported_selector, supported_selector}
+use Rattle.css_selector_text.specs.declared.components.Nesting.{Nesting}
+use Rattle.css_selector_text.specs.Components.{Placed, PseudoElement, Selector}
+use Rattle.css_selector_text.specs.reading.Grammar.{placed_list}
+use Rattle.css_selector_text.specs.Names.{Names, no_names}
+use Rattle.css_selector_text.specs.reading.Nested.{nested_list}
+use Rattle.css_selector_text.specs.Originating.{originating}
+use Rattle.css_selector_text.specs.reading.Readings.{Reading, got, refused, Reader}
+use Rattle.css_selector_text.specs.reading.Supported.{is_last_condition, is_supported_selector, supported_selector}
 
 -- A selector of a rule: its text; the selector without its pseudo-element, if it is supported; and the
 -- name of the pseudo-element at its end, if it has one.

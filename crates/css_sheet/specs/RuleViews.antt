@@ -2,9 +2,9 @@
 use Rattle.std.specs.Prelude.{List, map, Result, Ok, Err}
 use Rattle.std.specs.Option.{option_map}
 use Rattle.css_syntax.specs.declared.quality.Fault.{Fault}
-use Rattle.css_selectors.specs.declared.selector.Listed.{Listed}
-use Rattle.css_selectors.specs.Components.{Placed}
-use Rattle.css_selectors.specs.ReadViews.{placed_of}
+use Rattle.css_selector_text.specs.declared.selector.Listed.{Listed}
+use Rattle.css_selector_text.specs.Components.{Placed}
+use Rattle.css_selector_text.specs.reading.ReadViews.{placed_of}
 use Rattle.css_sheet.specs.declared.selectors.RuleSelector.{RuleSelector}
 use Rattle.css_sheet.specs.RuleSelectors.{SelectorRead}
 

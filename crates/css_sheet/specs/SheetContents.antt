@@ -2,7 +2,7 @@
 -- blocks of its style rules (CSS Nesting 1).
 use Rattle.std.specs.Prelude.{ℕ, true, List, [], length, map}
 use Rattle.css_syntax.specs.Placed.{PlacedItem, placed_items}
-use Rattle.css_selectors.specs.Names.{no_names}
+use Rattle.css_selector_text.specs.Names.{no_names}
 use Rattle.css_sheet.specs.SheetParts.{SheetPart, states, begins, ends, stands, PlacedPart, Source, parts_in}
 
 -- A part, what is left of the sheet from it on, and the offset at which it ends.

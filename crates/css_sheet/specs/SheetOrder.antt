@@ -10,8 +10,8 @@ use Rattle.css_text.specs.Ranks.{ordered_by}
 use Rattle.css_syntax.specs.declared.quality.Fault.{Fault}
 use Rattle.css_syntax.specs.Parts.{Stated}
 use Rattle.css_syntax.specs.DeclarationLists.{ListText, ItemText, declared, at_rule_item, skipped_item, items}
-use Rattle.css_selectors.specs.Components.{Selector}
-use Rattle.css_selectors.specs.Specificities.{Counts, specificity}
+use Rattle.css_selector_text.specs.Components.{Selector}
+use Rattle.css_selector_text.specs.Specificities.{Counts, specificity}
 use Rattle.css_cascade.specs.Cascade.{origin_rank}
 use Rattle.css_cascade.specs.Layers.{LayerText, place_of}
 use Rattle.css_cascade.specs.declared.weights.Origin.{Origin}

@@ -6,7 +6,7 @@ use Rattle.css_syntax.specs.Parts.{Stated}
 use Rattle.css_syntax.specs.Statements.{block, BlockText, past_between}
 use Rattle.css_syntax.specs.DeclarationLists.{ItemText, at_rule_item, past_separators}
 use Rattle.css_syntax.specs.Blocks.{BlockPart, listed, opens_rule, opens_at_rule, closes, next_block_part, next_rule_part}
-use Rattle.css_selectors.specs.Names.{Names}
+use Rattle.css_selector_text.specs.Names.{Names}
 use Rattle.css_sheet.specs.SheetItems.{group_keyword}
 use Rattle.css_sheet.specs.Namespaces.{sheet_names}
 use Rattle.css_sheet.specs.Sheets.{GroupRuleText, SheetText}

@@ -2,7 +2,7 @@
 use Rattle.std.specs.Prelude.{◌≡◌, ℕ, ◌+◌, ◌<◌, ◌++◌, Bool, List, map, Result, Ok, Err}
 use Rattle.std.specs.Option.{option_map}
 use Rattle.std.specs.Borrow.{Bor}
-use Rattle.css_selectors.specs.NameViews.{texts_of}
+use Rattle.css_selector_text.specs.NameViews.{texts_of}
 use Rattle.css_sheet.specs.declared.sheet_error.SheetError.{SheetError}
 use Rattle.css_sheet.specs.declared.sheet_error.SheetError.TheVariants.{TooManyDeclarations}
 use Rattle.css_sheet.specs.declared.sheet_rules.Sheet.{Sheet}

@@ -1,7 +1,7 @@
 //! Gathers the rules of style rules.
 ghost use Rattle.std.specs.Prelude.{◌≡◌, IfErr, map, option_to_list};
 ghost use Rattle.css_syntax.specs.Views.{item_of, prelude_of};
-ghost use Rattle.css_selectors.specs.NameViews.{names_of};
+ghost use Rattle.css_selector_text.specs.NameViews.{names_of};
 ghost use Rattle.css_sheet.specs.ContentViews.{part_of};
 ghost use Rattle.css_sheet.specs.internal.PartViews.{placed_last};
 ghost use Rattle.css_sheet.specs.ParentViews.{parent_of};

@@ -1,7 +1,7 @@
 //! The `@import` rules at the front of a sheet.
 ghost use Rattle.std.specs.Prelude.{◌≡◌, List, IfOk, None, map};
 ghost use Rattle.css_syntax.specs.Views.{prelude_of, statement_of};
-ghost use Rattle.css_selectors.specs.NameViews.{names_of};
+ghost use Rattle.css_selector_text.specs.NameViews.{names_of};
 ghost use Rattle.css_sheet.specs.Imports.{is_block_rule as is_block_rule_of};
 ghost use Rattle.css_sheet.specs.Imports.{is_font_rule as is_font_rule_of, is_outer_rule as is_outer_rule_of};
 ghost use Rattle.css_sheet.specs.Imports.{is_animation_rule as is_animation_rule_of};
@@ -18,7 +18,7 @@ use crate::namespace_rules::{FoundNamespace, read_namespace};
 use crate::open_layers::is_layer;
 use crate::selectors::read_listed;
 use css_cascade::{is_block_name, read_layer_names};
-use css_selectors::{NO_NAMES, Names};
+use css_selector_text::{NO_NAMES, Names};
 use css_syntax::statements::read_next;
 use css_syntax::texts::spells;
 use css_syntax::{AtRule, Prelude, Statement};

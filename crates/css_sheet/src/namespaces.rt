@@ -2,8 +2,8 @@
 ghost use Rattle.std.specs.Prelude.{◌≡◌, IfOk};
 ghost use Rattle.std.specs.Cow.{cow_str_bytes};
 ghost use Rattle.css_syntax.specs.Views.{statement_of};
-ghost use Rattle.css_selectors.specs.NameViews.{names_of, texts_of};
-ghost use Rattle.css_selectors.specs.Names.{no_names};
+ghost use Rattle.css_selector_text.specs.NameViews.{names_of, texts_of};
+ghost use Rattle.css_selector_text.specs.Names.{no_names};
 ghost use Rattle.css_sheet.specs.Imports.{rule_in_front};
 ghost use Rattle.css_sheet.specs.Namespaces.{number_from, url_number, default_number, with_prefix, with_namespace};
 ghost use Rattle.css_sheet.specs.Namespaces.{may_follow, begun_after, names_after, names_among, text_names};
@@ -14,7 +14,7 @@ ghost use Rattle.css_sheet.specs.internal.FrontViews.{front_rule_of};
 
 use crate::imports::{FrontRule, front_rule};
 use crate::namespace_rules::{FoundNamespace, decode_url};
-use css_selectors::{NO_NAMES, Names, Prefix, UNKNOWN_NAMESPACE};
+use css_selector_text::{NO_NAMES, Names, Prefix, UNKNOWN_NAMESPACE};
 use css_syntax::statements::read_next;
 use css_syntax::{Statement, decode};
 use std::alloc::{AllocError, Global};

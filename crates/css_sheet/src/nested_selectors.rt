@@ -1,13 +1,12 @@
 //! What `&` stands for in the rules in a style rule.
 ghost use Rattle.std.specs.Prelude.{◌≡◌, IfOk, map};
-ghost use Rattle.css_selectors.specs.Specificities.{nothing};
-ghost use Rattle.css_selectors.specs.SpecificityViews.{counts_of};
-ghost use Rattle.css_sheet.specs.NestedSelectors.{element_selectors, element_selector, greatest_read, read_counts};
+ghost use Rattle.css_selector_text.specs.SpecificityViews.{counts_of};
+ghost use Rattle.css_sheet.specs.NestedSelectors.{element_selectors, element_selector, nesting_counts, read_counts};
 ghost use Rattle.css_sheet.specs.RuleViews.{rule_selector_of};
 
 use crate::selectors::RuleSelector;
 use crate::sheet_rules::with_pseudo_element;
-use css_selectors::{NOTHING, Selector, Specificity, greater};
+use css_selector_text::{NOTHING, Selector, Specificity, greater};
 use std::alloc::{AllocError, Global};
 
 impl<'a> RuleSelector<'a> {
@@ -32,7 +31,7 @@ fn of_elements<'a>(one: RuleSelector<'a>) -> Option<Selector<'a>>
     }
 }
 
-/// Returns the selectors of these that are of elements and supported, and the greatest specificity of all.
+/// Returns the selectors of these that are of elements and supported, and the greatest specificity of those.
 pub(crate) fn list_of<'a>(
     alloc: Global,
     selectors: Vec<RuleSelector<'a>>,
@@ -40,13 +39,13 @@ pub(crate) fn list_of<'a>(
     ensures list { IfOk result (λ it. it.0.items
         ≡ element_selectors (map rule_selector_of selectors.entry.items)) }
     ensures counts { IfOk result (λ it. counts_of it.1
-        ≡ greatest_read nothing (map rule_selector_of selectors.entry.items)) }
+        ≡ nesting_counts (map rule_selector_of selectors.entry.items)) }
 {
     let mut list = Vec::new(alloc);
     let mut most = NOTHING;
     'selectors: for one in selectors {
-        most = greater(most, one.specificity());
         if let Some(selector) = of_elements(one) {
+            most = greater(most, selector.specificity());
             list.push(selector)?;
         }
     }

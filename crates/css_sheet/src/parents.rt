@@ -2,7 +2,7 @@
 //! the rules in them.
 ghost use Rattle.std.specs.Prelude.{◌≡◌, ◌++◌, ◌∷◌, [], IfOk, None, map, option_map};
 ghost use Rattle.css_syntax.specs.Views.{prelude_of};
-ghost use Rattle.css_selectors.specs.NameViews.{names_of};
+ghost use Rattle.css_selector_text.specs.NameViews.{names_of};
 ghost use Rattle.css_sheet.specs.RuleSelectors.{context, is_listed as is_listed_of, listed_under};
 ghost use Rattle.css_sheet.specs.RuleViews.{listed_result};
 ghost use Rattle.css_sheet.specs.OpenParents.{none_open, with_selectors, with_list, parent_in as parent_in_of};
@@ -18,7 +18,7 @@ use crate::nested_selectors::list_of;
 use crate::open_layers::is_layer;
 use crate::parts::{OpenRule, Part, RuleKind};
 use crate::selectors::{RuleSelector, read_listed, read_selectors};
-use css_selectors::{Names, Nesting, Selector};
+use css_selector_text::{Names, Nesting, Selector};
 use css_syntax::{Fault, Prelude};
 use std::alloc::{AllocError, Global};
 

@@ -5,7 +5,7 @@ ghost use Rattle.css_syntax.specs.DeclarationLists.{past_separators};
 ghost use Rattle.css_syntax.specs.Statements.{past_between};
 ghost use Rattle.css_syntax.specs.Views.{prelude_of};
 ghost use Rattle.css_syntax.specs.BlockViews.{block_part_of};
-ghost use Rattle.css_selectors.specs.NameViews.{names_of};
+ghost use Rattle.css_selector_text.specs.NameViews.{names_of};
 ghost use Rattle.css_sheet.specs.SheetItems.{group_keyword as group_keyword_of};
 ghost use Rattle.css_sheet.specs.SheetParts.{nesting_of as nesting_of_rules, applies_in as applies_in_rules};
 ghost use Rattle.css_sheet.specs.SheetParts.{nesting_in as nesting_in_kind, kind_holds as kind_holds_by};
@@ -23,7 +23,7 @@ ghost use Rattle.css_sheet.specs.SheetRuleViews.{Answers, sheet_of};
 
 use crate::groups::group_keyword;
 use crate::sheet_rules::{GroupRule, Sheet};
-use css_selectors::Names;
+use css_selector_text::Names;
 use css_syntax::blocks::{BlockPart, FoundBlockPart, read_next_block_part, read_next_rule_part};
 use css_syntax::statements::read_block;
 use css_syntax::texts::front;

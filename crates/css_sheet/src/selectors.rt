@@ -1,15 +1,15 @@
 //! The selectors of a style rule.
 ghost use Rattle.std.specs.Prelude.{◌≡◌, IfOk, map};
 ghost use Rattle.css_syntax.specs.Views.{prelude_of};
-ghost use Rattle.css_selectors.specs.ReadSelectors.{ParsesPlaced};
-ghost use Rattle.css_selectors.specs.NameViews.{names_of};
-ghost use Rattle.css_selectors.specs.ReadViews.{placed_of};
+ghost use Rattle.css_selector_text.specs.reading.ReadSelectors.{ParsesPlaced};
+ghost use Rattle.css_selector_text.specs.NameViews.{names_of};
+ghost use Rattle.css_selector_text.specs.reading.ReadViews.{placed_of};
 ghost use Rattle.css_sheet.specs.RuleSelectors.{text_between as text_between_of, past_colons as past_colons_of};
 ghost use Rattle.css_sheet.specs.RuleSelectors.{if_supported as if_supported_of, element_read, selector_read, selector_of};
 ghost use Rattle.css_sheet.specs.RuleSelectors.{context, list_under, listed_under, selectors_under};
 ghost use Rattle.css_sheet.specs.RuleViews.{rule_selector_of, listed_result, placed_result};
 
-use css_selectors::{Listed, Names, Nesting, Refusal, Selector, Why};
+use css_selector_text::{Listed, Names, Nesting, Refusal, Selector, Why};
 use css_syntax::quality::{fault_of, is_good};
 use css_syntax::texts::{past_byte, past_gap};
 use css_syntax::{Fault, Prelude};
@@ -18,7 +18,7 @@ use std::alloc::{AllocError, Global};
 /// A selector of a style rule.
 ///
 /// With a `selector` and no `pseudo_element` it is one of elements, and matches those that
-/// `Selector::matches` says. With both it is one of a pseudo-element of these, and of no element
+/// `Matching::matches` of `css_selectors` says. With both it is one of a pseudo-element of these, and of no element
 /// itself. Without a `selector` it is valid, but unsupported.
 #[derive(Drop)]
 pub struct RuleSelector<'a> {

@@ -7,7 +7,7 @@ ghost use Rattle.css_sheet.specs.internal.PartViews.{placed_last, source_of};
 use crate::parts::{Part, SheetParts};
 use crate::sheet_rules::Sheet;
 use css_cascade::Origin;
-use css_selectors::NO_NAMES;
+use css_selector_text::NO_NAMES;
 use std::alloc::{AllocError, Global};
 
 /// A part of a sheet, and where it is.

@@ -1,13 +1,13 @@
 //! The names of namespaces that each of several sheets declares.
 ghost use Rattle.std.specs.Prelude.{◌≡◌, IfOk, map};
-ghost use Rattle.css_selectors.specs.NameViews.{names_of};
+ghost use Rattle.css_selector_text.specs.NameViews.{names_of};
 ghost use Rattle.css_sheet.specs.Namespaces.{sheet_names};
 ghost use Rattle.css_sheet.specs.NamespaceViews.{names_owned, names_declared};
 ghost use Rattle.css_sheet.specs.SheetRuleViews.{sheet_of};
 
 use crate::namespaces::{DeclaredNamespaces, SheetNamespaces};
 use crate::sheet_rules::Sheet;
-use css_selectors::Names;
+use css_selector_text::Names;
 use std::alloc::{AllocError, Global};
 
 /// Reads what each sheet declares.

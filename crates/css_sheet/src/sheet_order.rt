@@ -6,7 +6,7 @@ ghost use Rattle.css_sheet.specs.internal.OpenViews.{known_in, numbers_in, outer
 ghost use Rattle.css_sheet.specs.ContentViews.{part_of};
 ghost use Rattle.css_sheet.specs.internal.PartViews.{open_in};
 ghost use Rattle.css_sheet.specs.SheetLayers.{layer_count, sheet_layers, with_layers as with_layers_of};
-ghost use Rattle.css_selectors.specs.NameViews.{names_of};
+ghost use Rattle.css_selector_text.specs.NameViews.{names_of};
 ghost use Rattle.css_sheet.specs.Namespaces.{sheet_names};
 ghost use Rattle.css_sheet.specs.SheetParts.{PlacedPart, sheet_parts};
 ghost use Rattle.css_sheet.specs.SheetOrder.{cascade_rules, nested_lists, source_rules};
@@ -24,7 +24,7 @@ use crate::sheet_error::SheetError;
 use crate::sheet_namespaces::{declare_all, names_in, read_namespaces};
 use crate::sheet_rules::{Sheet, SheetRule};
 use css_cascade::{Layers, Origin, is_block_name, outermost};
-use css_selectors::{Names, Selector};
+use css_selector_text::{Names, Selector};
 use std::alloc::{AllocError, Global};
 
 /// Whether a group rule holds: an `@layer` does, if its prelude is a name or nothing, and others hold as
@@ -194,7 +194,7 @@ pub struct SheetRules<'a> {
     /// The rules.
     pub rules: Vec<SheetRule<'a>>,
     /// The lists of selectors that `&` denotes in nested rules, each at its number less one
-    /// ([`Nesting::number`](css_selectors::Nesting)): one of each style rule with rules in it. In a list
+    /// ([`Nesting::number`](css_selector_text::Nesting)): one of each style rule with rules in it. In a list
     /// `&` denotes one before it.
     pub lists: Vec<Vec<Selector<'a>>>,
 }
@@ -216,7 +216,7 @@ pub struct SheetRules<'a> {
 /// among the `namespaces` of the sheet; nothing is in one that is not among them.
 ///
 /// In a nested style rule `&` denotes the list of the one that it is in, by a number. An element is asked
-/// whether it is in the list ([`Element::is_in_list`](css_selectors::Element)), and the lists are returned
+/// whether it is in the list (`Element::is_in_list` of `css_selectors`), and the lists are returned
 /// beside the rules. A rule in one with a part that is no selector has no rules, nor have those in it.
 ///
 /// About an `@layer` nobody is asked: it holds, unless its prelude is neither a name nor nothing. Layers

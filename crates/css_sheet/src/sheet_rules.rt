@@ -1,14 +1,13 @@
 //! Style rules, each with one selector.
 ghost use Rattle.std.specs.Prelude.{◌≡◌, true, option_map};
 ghost use Rattle.css_syntax.specs.ListReaders.{BeginsList};
-ghost use Rattle.css_selectors.specs.SpecificityViews.{counts_of};
+ghost use Rattle.css_selector_text.specs.SpecificityViews.{counts_of};
 ghost use Rattle.css_sheet.specs.NestedSelectors.{with_element};
 ghost use Rattle.css_sheet.specs.SheetOrder.{rule_counts, rule_key};
 ghost use Rattle.css_sheet.specs.SheetRuleViews.{sheet_rule_of};
 
 use css_cascade::Origin;
-use css_index::HasSelector;
-use css_selectors::{Selector, Specificity};
+use css_selector_text::{HasSelector, Selector, Specificity};
 use css_syntax::Declarations;
 
 /// Returns the specificity with that of a pseudo-element, if there is one.
@@ -51,7 +50,7 @@ pub struct Sheet<'s, 'a> {
     /// instance. Its own top level stays one, which no `}` closes.
     pub around: &'s [GroupRule<'a>],
     /// The urls of the namespaces that are known: the first has number 1, of which
-    /// [`Element::is_in_namespace`](css_selectors::Element) is asked. If there are none, a selector with a prefix
+    /// `Element::is_in_namespace` of `css_selectors` is asked. If there are none, a selector with a prefix
     /// that is declared is unsupported, and no default namespace counts.
     pub namespaces: &'s [&'s str],
 }

@@ -3,7 +3,7 @@
 use Rattle.std.proofs.Common.{◌≡◌, ℕ, zero, suc, ◌<◌, Bool, true, false, not, ◌&&◌, ◌||◌, ◌==◌, cond, List, [], ◌∷◌, ◌++◌, length, map, set, get_or, Option, None, Some, refl, sym, ap, ◌∙◌, subst, arith, eqb-true, eq-eqb}
 use Rattle.std.specs.Prelude.{bytes_eq, filter, option_map}
 use Rattle.std.specs.List.{All, AllByRecursion, list_any, slice_get}
-use Rattle.std.proofs.lemmas.List.{append_assoc, length-set, map-append}
+use Rattle.std.proofs.lemmas.List.{length-set, map-append}
 use Rattle.std.proofs.lemmas.List.Elements.{filter-append, recursion_from_All}
 use Rattle.css_cascade.specs.Cascade.{beats}
 use Rattle.css_cascade.specs.WeightViews.{weighed}
@@ -13,7 +13,7 @@ use Rattle.css_cascade.proofs.WinnerLemmas.{winner-append}
 use Rattle.css_styles.specs.declared.contest.Numbered.{Numbered}
 use Rattle.css_styles.specs.Contenders.{Contender, is_property, of_property}
 use Rattle.css_styles.specs.Properties.{number_in, property_key}
-use Rattle.css_styles.specs.Winners.{WinnerText, as_winner, is_beaten}
+use Rattle.css_styles.specs.Winners.{is_beaten}
 use Rattle.css_styles.specs.internal.Numbered.{IsNumbered, IsNoted, best_of, is_kept, is_kept_by, numbered_of, weight_of}
 use Rattle.css_styles.specs.internal.Stepping.{seen}
 use Rattle.css_cascade.specs.Rollbacks.{is_left_under, best_of as best_seen}
@@ -249,25 +249,6 @@ pub All-each : {X : Type 0} (P Q : X → Type 0) → ((x : X) → P x → Q x) �
     → All Q xs
 All-each P Q h xs all = λ k d l. h (get_or xs k d) (all k d l)
 
-pub kept-step : (all xs : List Numbered) (one : Numbered)
-    → map as_winner (filter (λ (c : Contender). not (is_beaten (map numbered_of all) c))
-    (map numbered_of (xs ++ one ∷ [])))
-    ≡ map as_winner (filter (λ (c : Contender). not (is_beaten (map numbered_of all) c))
-    (map numbered_of xs))
-    ++ cond (not (is_beaten (map numbered_of all) (numbered_of one))) (as_winner (numbered_of one) ∷ []) []
-kept-step all xs one =
-    let test : Contender → Bool = λ c. not (is_beaten (map numbered_of all) c) in
-    ap (λ cs. map as_winner (filter test cs)) (map-append numbered_of xs (one ∷ []))
-    ∙ ap (map as_winner) (filter-append test (map numbered_of xs) (numbered_of one ∷ []))
-    ∙ map-append as_winner (filter test (map numbered_of xs)) (filter test (numbered_of one ∷ []))
-    ∙ ap (λ ws. map as_winner (filter test (map numbered_of xs)) ++ ws)
-    (by (test (numbered_of one)))
-  where
-    by : (t : Bool) → map as_winner (cond t (numbered_of one ∷ []) [])
-        ≡ cond t (as_winner (numbered_of one) ∷ []) []
-    by true = refl
-    by false = refl
-
 -- what is noted is the best so far
 pub so-far : (xs : List Numbered) (best : List (Option Weight)) (d : Option Weight) (one : Numbered)
     → IsNoted xs best one → one.property < length best
@@ -279,22 +260,6 @@ so-far xs best d one noted within =
     let same : option_map weighed (get_or best one.property d) ≡ best_of one.property xs =
     some-same (sym (ap (option_map (option_map weighed)) at) ∙ noted) in
     ap (λ b. better itself b (weight_of one)) same
-
-pub push-step : (all xs next : List Numbered) (one : Numbered) (old before after : List WinnerText)
-    (t : Bool)
-    → before ≡ old ++ map as_winner (filter (λ (c : Contender). not (is_beaten (map numbered_of all) c))
-    (map numbered_of xs)) → after ≡ before ++ cond t (as_winner (numbered_of one) ∷ []) []
-    → t ≡ not (is_beaten (map numbered_of all) (numbered_of one)) → next ≡ xs ++ one ∷ []
-    → after ≡ old ++ map as_winner (filter (λ (c : Contender). not (is_beaten (map numbered_of all) c))
-    (map numbered_of next))
-push-step all xs next one old before after t so_far pushed wanted more =
-    let test : Contender → Bool = λ c. not (is_beaten (map numbered_of all) c) in
-    let kept = map as_winner (filter test (map numbered_of xs)) in
-    pushed ∙ ap (λ ws. ws ++ cond t (as_winner (numbered_of one) ∷ []) []) so_far
-    ∙ ap (λ b. (old ++ kept) ++ cond b (as_winner (numbered_of one) ∷ []) []) wanted
-    ∙ append_assoc old kept (cond (test (numbered_of one)) (as_winner (numbered_of one) ∷ []) [])
-    ∙ ap (λ ws. old ++ ws) (sym (kept-step all xs one))
-    ∙ sym (ap (λ ns. old ++ map as_winner (filter test (map numbered_of ns))) more)
 
 pub note-all : (all xs next : List Numbered) (one : Numbered) (best : List (Option Weight))
     (d : Option Weight) (v : Weight) (count : ℕ) → one.property < count → length best ≡ count

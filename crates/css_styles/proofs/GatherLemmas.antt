@@ -1,6 +1,6 @@
 -- The declarations that apply to an element, as they are gathered.
 -- Serves the functions of `gathering`.
-use Rattle.std.proofs.Common.{◌≡◌, ℕ, ◌+◌, ◌<◌, ◌≤◌, true, false, if◌then◌else◌, List, [], ◌∷◌, ◌++◌, length, map, get_or, Some, Result, Ok, Err, refl, sym, ap, ◌∙◌, subst, arith, option_map}
+use Rattle.std.proofs.Common.{◌≡◌, ℕ, ◌+◌, ◌<◌, ◌≤◌, true, false, if◌then◌else◌, List, [], ◌∷◌, ◌++◌, filter, length, map, get_or, Some, Result, Ok, Err, refl, sym, ap, ◌∙◌, subst, arith, option_map}
 use Rattle.std.specs.Prelude.{IfSome, OnOk, is_ok}
 use Rattle.std.specs.List.{All, slice_get}
 use Rattle.std.specs.Option.{is_some}
@@ -13,21 +13,24 @@ use Rattle.css_sheet.specs.SheetOrder.{SheetRuleText}
 use Rattle.css_sheet.specs.SheetRuleViews.{sheet_rule_of}
 use Rattle.css_sheet.specs.declared.sheet_rules.SheetRule.{SheetRule}
 use Rattle.css_styles.specs.declared.contest.Numbered.{Numbered}
-use Rattle.css_styles.specs.Contenders.{Contender, in_rule, in_turn, own_declarations, rule_declarations}
+use Rattle.css_styles.specs.Contenders.{Contender, in_rule, in_turn, is_declared, own_declarations, rule_declarations, stated_at, states_at}
 use Rattle.css_styles.specs.internal.Numbered.{AreStated, IsMore, numbered_of}
-use Rattle.css_styles.specs.internal.Stepping.{stated_at, states_at}
 use Rattle.css_styles.proofs.ContestLemmas.{at-index}
-use Rattle.css_styles.proofs.WinningLemmas.{some-mapped}
+use Rattle.css_styles.proofs.WinningLemmas.{some-mapped, turn-first}
 
 -- one more is gathered, of those that are to come
 pub turn-step : (contends : (place : ℕ) → DeclarationText → Contender) (place : ℕ)
     (one : DeclarationText) (before after : List DeclarationText) (old now whole : List Contender)
     → before ≡ one ∷ after → old ++ in_turn contends place before ≡ whole
-    → now ≡ old ++ contends place one ∷ [] → now ++ in_turn contends (place + 1) after ≡ whole
+    → now ≡ old ++ filter is_declared (contends place one ∷ [])
+    → now ++ in_turn contends (place + 1) after ≡ whole
 turn-step contends place one before after old now whole first come pushed =
     ap (λ cs. cs ++ in_turn contends (place + 1) after) pushed
-    ∙ append_assoc old (contends place one ∷ []) (in_turn contends (place + 1) after)
-    ∙ sym (ap (λ ds. old ++ in_turn contends place ds) first) ∙ come
+    ∙ append_assoc old (filter is_declared (contends place one ∷ []))
+    (in_turn contends (place + 1) after)
+    ∙ sym (ap (λ ds. old ++ in_turn contends place ds) first
+    ∙ ap (λ cs. old ++ cs) (turn-first contends place one after))
+    ∙ come
 
 pub numbered-push : (old now : List Numbered) (n : Numbered) (one : Contender) → now ≡ old ++ n ∷ []
     → numbered_of n ≡ one → map numbered_of now ≡ map numbered_of old ++ one ∷ []

@@ -15,8 +15,9 @@ use Rattle.css_cascade.proofs.RollbackLemmas.{all-left, still}
 use Rattle.css_cascade.proofs.WinnerLemmas.{found-some, wins}
 use Rattle.css_styles.specs.Contenders.{Contender, is_property}
 use Rattle.css_styles.specs.Properties.{property_key}
-use Rattle.css_styles.specs.Winners.{AreApart, counting, counting_each, is_beaten, unbeaten}
+use Rattle.css_styles.specs.Winners.{AreDistinct, counting, counting_each, is_beaten, unbeaten}
 use Rattle.css_styles.specs.internal.Stepping.{seen}
+use Rattle.css_styles.proofs.DistinctLemmas.{alike-are-one}
 use Rattle.css_styles.proofs.FloorLemmas.{filter-all, itself, not-itself}
 use Rattle.css_styles.proofs.NumberLemmas.{bytes-itself}
 use Rattle.css_styles.proofs.PropertyLemmas.{property-keys}
@@ -115,12 +116,12 @@ module _ {X : Type 0} (weight : X → Weighed) (rivals : List X → X → List X
 
 -- ---- what is rolled back does not win
 
-contains-filter : {X : Type 0} (p : X → Bool) (xs : List X) (x : X) → Contains (filter p xs) x
+pub contains-filter : {X : Type 0} (p : X → Bool) (xs : List X) (x : X) → Contains (filter p xs) x
     → Contains xs x
 contains-filter p xs x h =
     All-contains (Contains xs) (filter p xs) x (All-filter p (Contains xs) xs (All-contains_itself xs)) h
 
-tied : (a b : Weighed) → beats a b ≡ false → beats b a ≡ false → cascade_cmp a b ≡ Equal
+pub tied : (a b : Weighed) → beats a b ≡ false → beats b a ≡ false → cascade_cmp a b ≡ Equal
 tied a b e f = by (cascade_cmp a b) e (sym (ap is_gt (cascade_total.antisymm b a)) ∙ f)
   where
     by : (r : Ordering) → is_gt r ≡ false → is_gt (ordering_reverse r) ≡ false → r ≡ Equal
@@ -169,33 +170,33 @@ left-counts rivals all one fixed h =
     (subst (λ cs. Contains cs one) (sym fixed) h)
 
 -- two of these that nothing tells apart are alike
-apart-from : (found : List Contender) → AreApart found → (all : List Contender)
+apart-from : (found : List Contender) → AreDistinct found → (all : List Contender)
     → All (Contains found) all → (one : Contender) → Contains found one
     → All (λ other. cascade_cmp (seen other) (seen one) ≡ Equal → seen other ≡ seen one) all
-apart-from found apart all there one h =
+apart-from found distinct all there one h =
     All-weaker (Contains found)
     (λ other. cascade_cmp (seen other) (seen one) ≡ Equal → seen other ≡ seen one)
-    (λ other o. apart other one o h) all there
+    (λ other o. alike-are-one found distinct other one o h) all there
 
-pub none-rolled : (found : List Contender) → AreApart found → (one : Contender)
+pub none-rolled : (found : List Contender) → AreDistinct found → (one : Contender)
     → Wins seen (counting found) one → rolls_back (seen one) ≡ false
-none-rolled found apart one won =
+none-rolled found distinct one won =
     let all = counting found in
     let there = all-left-over seen all_of found (Contains found) (All-contains_itself found) in
     not-rolled all one won.found_there won.unbeaten
-    (apart-from found apart all there one (All-contains (Contains found) all one there won.found_there))
+    (apart-from found distinct all there one (All-contains (Contains found) all one there won.found_there))
     (left-counts all_of all one (left-fixed seen all_of found) won.found_there)
 
 -- ---- of several properties
 
-not-true : (t : Bool) → not t ≡ true → t ≡ false
+pub not-true : (t : Bool) → not t ≡ true → t ≡ false
 not-true true e = absurd (cc)
 not-true false e = refl
 
-same-property : (name : List ℕ) → is_property name name ≡ true
+pub same-property : (name : List ℕ) → is_property name name ≡ true
 same-property name = property-keys name name ∙ bytes-itself (property_key name)
 
-contains-kept : {X : Type 0} (p : X → Bool) (xs : List X) (x : X) → Contains xs x → p x ≡ true
+pub contains-kept : {X : Type 0} (p : X → Bool) (xs : List X) (x : X) → Contains xs x → p x ≡ true
     → Contains (filter p xs) x
 contains-kept p [] x h e = let l = h.1 in absurd (omega (arith, l))
 contains-kept p (y ∷ xs) x h e = at (λ c. contains-kept p xs x c e) h.0 h.1 h.2
@@ -219,7 +220,7 @@ or-second : (s t : Bool) → (s || t) ≡ false → t ≡ false
 or-second true t e = absurd (cc)
 or-second false t e = e
 
-none-beats : (one : Contender) (all : List Contender) → is_beaten all one ≡ false
+pub none-beats : (one : Contender) (all : List Contender) → is_beaten all one ≡ false
     → All (λ other. beats (seen other) (seen one) ≡ false) (of_its_property all one)
 none-beats one [] e = All-nil (λ other. beats (seen other) (seen one) ≡ false)
 none-beats one (c ∷ all) e =
@@ -237,9 +238,9 @@ none-beats one (c ∷ all) e =
         (rest (or-second (beats (seen c) (seen one)) (is_beaten all one) e))
     by false rest e = rest e
 
-pub none-rolled-each : (found : List Contender) → AreApart found
+pub none-rolled-each : (found : List Contender) → AreDistinct found
     → All (λ c. rolls_back (seen c) ≡ false) (unbeaten (counting_each found))
-none-rolled-each found apart =
+none-rolled-each found distinct =
     All-weaker (Contains (unbeaten all)) (λ c. rolls_back (seen c) ≡ false) each (unbeaten all)
     (All-contains_itself (unbeaten all))
   where
@@ -260,5 +261,5 @@ none-rolled-each found apart =
         (none-beats one all (not-true (is_beaten all one) wins-it))
         (All-filter of-one
         (λ other. cascade_cmp (seen other) (seen one) ≡ Equal → seen other ≡ seen one) all
-        (apart-from found apart all there one (All-contains (Contains found) all one there in-all)))
+        (apart-from found distinct all there one (All-contains (Contains found) all one there in-all)))
         (left-counts of_its_property all one (left-fixed seen of_its_property found) in-all)

@@ -9,9 +9,14 @@ mod RestLemmas
 mod RollingLemmas
 mod WinningLemmas
 mod GatherLemmas
+mod TakenLemmas
 mod StyleLemmas
 mod RankLemmas
 mod FloorLemmas
 mod StandingLemmas
 mod LawLemmas
-mod ApartLemmas
+pub mod DistinctLemmas
+pub mod OneLemmas
+mod SettledLemmas
+mod OrderLemmas
+mod WinnerVectors

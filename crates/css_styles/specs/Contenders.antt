@@ -1,20 +1,21 @@
 -- The declarations of which one wins for each property of an element (CSS Cascading 5, section 6): those
 -- of rules that apply to it, as they are ordered in sheets, and then the element's own: its presentation
 -- declarations, and those of its style attribute.
-use Rattle.std.specs.Prelude.{ℕ, ◌+◌, Bool, true, false, not, ◌&&◌, if◌then◌else◌, nat_eq, List, [], ◌∷◌, ◌++◌, filter, Option, None, Some}
-use Rattle.std.specs.List.{filter_map, list_any}
+use Rattle.std.specs.Prelude.{ℕ, ◌+◌, Bool, true, false, not, ◌||◌, if◌then◌else◌, nat_eq, List, [], ◌∷◌, ◌++◌, filter, Option, None, Some}
+use Rattle.std.specs.List.{filter_map, flat_map, list_any, slice_get}
 use Rattle.std.specs.Option.{is_some}
 use Rattle.std.specs.Cmp.Lexicographic.{pointwise}
 use Rattle.std.specs.Str.{str_eq_ignore_ascii_case}
 use Rattle.css_text.specs.AsciiBytes.{hyphen}
 use Rattle.css_text.specs.Bytes.{starts_two}
 use Rattle.css_syntax.specs.DeclarationLists.{DeclarationText, ListText, ItemText, declared, at_rule_item, skipped_item, items}
-use Rattle.css_selectors.specs.Components.{Selector}
 use Rattle.css_cascade.specs.Cascade.{Weighed}
 use Rattle.css_cascade.specs.Rollbacks.{rollback_of}
 use Rattle.css_cascade.specs.declared.weights.Origin.{Origin}
 use Rattle.css_cascade.specs.declared.weights.Origin.TheVariants.{Author, Hint}
 use Rattle.css_sheet.specs.SheetOrder.{SheetRuleText, rule_counts, weight}
+use Rattle.css_values.specs.Resolution.{deepest_fallback}
+use Rattle.css_values.specs.Validity.{is_valid}
 use Rattle.css_styles.specs.declared.winner.Source.{Source}
 use Rattle.css_styles.specs.declared.winner.Source.TheVariants as sources
 
@@ -108,24 +109,40 @@ abbrev pub in_presentation : (place : ℕ) → DeclarationText → Contender
 in_presentation = in_no_rule Hint false sources.Presentation
 
 -- declarations one after another, each with its place among them
+abbrev pub placed : ((place : ℕ) → DeclarationText → Contender) → (place : ℕ)
+    → List DeclarationText → List Contender
+placed contends place [] = []
+placed contends place (one ∷ more) = contends place one ∷ placed contends (place + 1) more
+
+-- It is a declaration at all: each reference `var()` of its value is valid (CSS Custom Properties for
+-- Cascading Variables 1, section 3). A value that the end of the text closes is taken as it is.
+abbrev pub is_declared : Contender → Bool
+is_declared one =
+    not one.declaration.closed || is_valid deepest_fallback one.declaration.value
+
+-- those of them that are declarations at all, each with its place among all
 abbrev pub in_turn : ((place : ℕ) → DeclarationText → Contender) → (place : ℕ)
     → List DeclarationText → List Contender
-in_turn contends place [] = []
-in_turn contends place (one ∷ more) =
-    contends place one ∷ in_turn contends (place + 1) more
+in_turn contends place all = filter is_declared (placed contends place all)
 
--- The declarations of a rule, where `matches` says which selectors match the element. One of a
--- pseudo-element does not apply to the element itself.
-abbrev pub of_rule : (Selector → Bool) → (rule_place : ℕ) → SheetRuleText → List Contender
-of_rule matches rule_place rule =
-    if not (is_some rule.pseudo_element) && matches rule.selector
-    then in_turn (in_rule rule_place rule) 0 (rule_declarations rule) else []
+-- The declarations of a rule, which has this index among all. A rule of a pseudo-element does not apply to
+-- the element itself.
+abbrev pub states : (index : ℕ) → SheetRuleText → List Contender
+states index rule =
+    if is_some rule.pseudo_element then []
+    else in_turn (in_rule index rule) 0 (rule_declarations rule)
 
--- those of rules, where the first of these has this place among all
-abbrev pub of_rules : (Selector → Bool) → (rule_place : ℕ) → List SheetRuleText → List Contender
-of_rules matches rule_place [] = []
-of_rules matches rule_place (rule ∷ rules) =
-    of_rule matches rule_place rule ++ of_rules matches (rule_place + 1) rules
+abbrev pub states_at : (index : ℕ) → Option SheetRuleText → List Contender
+states_at index None = []
+states_at index (Some rule) = states index rule
+
+-- those of the rule at an index
+abbrev pub stated_at : List SheetRuleText → (index : ℕ) → List Contender
+stated_at rules index = states_at index (slice_get rules index)
+
+-- those of the rules at these indices, one after another
+abbrev pub of_rules : List SheetRuleText → (indices : List ℕ) → List Contender
+of_rules rules indices = flat_map (stated_at rules) indices
 
 -- those of the element itself
 abbrev pub of_own : OwnText → List Contender
@@ -133,9 +150,9 @@ of_own own =
     in_turn in_presentation 0 (own_declarations own.presentation)
     ++ in_turn in_style 0 (own_declarations own.style)
 
--- all that contend on an element that has these of its own
-abbrev pub contenders : (Selector → Bool) → List SheetRuleText → OwnText → List Contender
-contenders matches rules own = of_rules matches 0 rules ++ of_own own
+-- all that contend on an element that the rules at these indices match, and that has these of its own
+abbrev pub contenders : List SheetRuleText → (indices : List ℕ) → OwnText → List Contender
+contenders rules indices own = of_rules rules indices ++ of_own own
 
 -- those of one property
 abbrev pub of_property : List ℕ → List Contender → List Contender

@@ -1,7 +1,7 @@
 -- Rules whose selectors ask lists by numbers: those that `&` stands for, and those of pseudo-classes such as
 -- `:has()`.
 use Rattle.std.specs.Prelude.{List, [], ◌∷◌}
-use Rattle.css_selectors.specs.Components.{Selector}
+use Rattle.css_selector_text.specs.Components.{Selector}
 use Rattle.css_selectors.specs.Numberings.{NumberingText, no_lists, with_each_list, numbered_selector}
 use Rattle.css_sheet.specs.SheetOrder.{SheetRuleText}
 

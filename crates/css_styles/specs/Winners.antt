@@ -1,13 +1,19 @@
 -- Which declarations win on an element.
-use Rattle.std.specs.Prelude.{◌≡◌, ◌↔◌, ℕ, Bool, not, ◌&&◌, List, [], ◌∷◌, filter, map, Option, None, Some, IsTrue}
-use Rattle.std.specs.List.{Contains, list_any}
+use Rattle.std.specs.Prelude.{◌≡◌, ◌⊎◌, ℕ, Bool, not, ◌&&◌, if◌then◌else◌, List, [], ◌∷◌, filter, map, Option, None, Some}
+use Rattle.std.specs.List.{All, AllPairs, Contains, list_any}
+use Rattle.std.specs.List.Sorted.{IsStrictlyIncreasing}
+use Rattle.std.specs.Ordering.{is_lt}
 use Rattle.std.specs.declared.cmp.Ordering.TheVariants.{Equal}
+use Rattle.css_text.specs.Ranks.{ordered_by}
 use Rattle.css_syntax.specs.DeclarationLists.{DeclarationText}
-use Rattle.css_selectors.specs.Components.{Selector}
-use Rattle.css_cascade.specs.Cascade.{Wins, beats, cascade_cmp}
-use Rattle.css_cascade.specs.Rollbacks.{left}
+use Rattle.css_selectors.specs.Documents.{Document}
+use Rattle.css_cascade.specs.Cascade.{Weighed, Wins, beats, cascade_cmp}
+use Rattle.css_cascade.specs.Rollbacks.{is_left, left}
+use Rattle.css_cascade.specs.declared.rollback.Rollback.TheVariants.{Nowhere}
+use Rattle.css_cascade.specs.declared.weights.Origin.TheVariants.{Hint}
+use Rattle.css_index.specs.Found.{MatchesAt}
 use Rattle.css_sheet.specs.SheetOrder.{SheetRuleText}
-use Rattle.css_styles.specs.Contenders.{Contender, OwnText, contenders, is_property, of_names, of_property}
+use Rattle.css_styles.specs.Contenders.{Contender, OwnText, contenders, is_property, of_names, of_property, stated_at}
 use Rattle.css_styles.specs.declared.winner.Source.{Source}
 
 -- A declaration that wins; where it is; and how many declarations are before it there.
@@ -40,11 +46,57 @@ is_beaten all one =
 abbrev pub unbeaten : List Contender → List Contender
 unbeaten all = filter (λ (one : Contender). not (is_beaten all one)) all
 
--- The declarations that win on an element that has these of its own, where `matches` says which selectors
--- match it: for each property the one that no other that counts beats, in their order.
-abbrev pub winners : (Selector → Bool) → List SheetRuleText → OwnText → List WinnerText
-winners matches rules own =
-    map as_winner (unbeaten (counting_each (contenders matches rules own)))
+-- None of these declarations, of whichever property, counts still where this one wins: it is `revert` or
+-- `revert-layer`, and nothing is in an earlier origin or layer.
+abbrev pub is_first : List Contender → Weighed → Bool
+is_first all one = not (list_any (λ (other : Contender). is_left other.weight one) all)
+
+-- what the cascade sees of a declaration with a value that does not roll back
+abbrev pub as_value : Weighed → Weighed
+as_value one = record {
+  important = one.important;
+  origin = one.origin;
+  attached = one.attached;
+  layer = one.layer;
+  specificity = one.specificity;
+  place = one.place;
+  rollback = Nowhere;
+}
+
+abbrev pub with_weight : Weighed → Contender → Contender
+with_weight weight one = record {
+  weight = weight;
+  declaration = one.declaration;
+  source = one.source;
+  place = one.place;
+}
+
+-- A declaration that nothing is before stands as it is: what is applied to the element in the end says
+-- `revert`, too, which leaves what the declarations before it set.
+abbrev pub settled_in : List Contender → Contender → Contender
+settled_in all one = with_weight (if is_first all one.weight then as_value one.weight else one.weight) one
+
+abbrev pub settled : List Contender → List Contender
+settled all = map (settled_in all) all
+
+-- in the order of the cascade, the strongest last
+abbrev pub in_order : List Contender → List Contender
+in_order found =
+    ordered_by (λ (one other : Contender). is_lt (cascade_cmp one.weight other.weight)) found
+
+-- What is to be applied to an element, one after another, of these declarations, which apply to it: for each
+-- property the one that no other that counts beats, in the order of the cascade.
+abbrev pub applied : List Contender → List Contender
+applied all = in_order (unbeaten (counting_each (settled all)))
+
+-- The declarations that win on an element that the rules at these indices match, and that has these of its
+-- own.
+abbrev pub winners : List SheetRuleText → (indices : List ℕ) → OwnText → List WinnerText
+winners rules indices own = map as_winner (applied (contenders rules indices own))
+
+-- those that count of all that contend there
+abbrev pub counted : List SheetRuleText → (indices : List ℕ) → OwnText → List Contender
+counted rules indices own = counting_each (settled (contenders rules indices own))
 
 -- It is one of these declarations that count, and none of them beats it; or there is none.
 abbrev pub IsUnbeaten : List Contender → Option WinnerText → Type 0
@@ -73,10 +125,20 @@ AreApart found =
     (one other : Contender) → Contains found one → Contains found other
     → cascade_cmp one.weight other.weight ≡ Equal → one.weight ≡ other.weight
 
--- `matches` says of which selectors this holds
-abbrev pub Decides : (Selector → Bool) → (Selector → Type 0) → Type 0
-Decides matches Holds = (s : Selector) → IsTrue (matches s) ↔ Holds s
+-- These are indices of rules that match the node, in order, each once; and a rule that matches it and is not among
+-- them states nothing of the property.
+pub record AreStating {Node : Type 0} (document : Document Node) (n : Node) (property : List ℕ)
+    (rules : List SheetRuleText) (indices : List ℕ) : Type 0 where
+  pub ascending : IsStrictlyIncreasing indices
+  pub each : All (MatchesAt document n (map (λ (rule : SheetRuleText). rule.selector) rules)) indices
+  pub others : (index : ℕ) → MatchesAt document n (map (λ (rule : SheetRuleText). rule.selector) rules) index
+      → Contains indices index ⊎ (of_property property (stated_at rules index) ≡ [])
 
--- the selectors are those of the rules, each as a document reads it
-abbrev pub AreReadBy : (Selector → Selector) → List SheetRuleText → List Selector → Type 0
-AreReadBy read rules selectors = selectors ≡ map (λ (rule : SheetRuleText). read rule.selector) rules
+-- No two of these, which stand at different places, are alike in the order of the cascade.
+abbrev pub AreDistinct : List Contender → Type 0
+AreDistinct found =
+    AllPairs (λ (one other : Contender). cascade_cmp one.weight other.weight ≡ Equal → ⊥) found
+
+-- no rule is of the origin of presentational hints, which are an element's own
+abbrev pub HaveNoHints : List SheetRuleText → Type 0
+HaveNoHints rules = All (λ (rule : SheetRuleText). rule.origin ≡ Hint → ⊥) rules

@@ -1,9 +1,9 @@
 //! Declarations that contend, with what the cascade sees of them.
-ghost use Rattle.std.specs.Prelude.{◌≡◌, option_map};
+ghost use Rattle.std.specs.Prelude.{◌≡◌, IfOk, option_map};
 ghost use Rattle.css_cascade.specs.Cascade.{better};
 ghost use Rattle.css_syntax.specs.Views.{declaration_of};
 ghost use Rattle.css_sheet.specs.SheetRuleViews.{sheet_rule_of};
-ghost use Rattle.css_styles.specs.Contenders.{in_rule as in_rule_of};
+ghost use Rattle.css_styles.specs.Contenders.{in_rule as in_rule_of, is_declared as is_declared_of};
 ghost use Rattle.css_styles.specs.StyleViews.{winner_of};
 ghost use Rattle.css_styles.specs.Winners.{as_winner};
 ghost use Rattle.css_styles.specs.internal.Stepping.{contender_of, in_own as in_own_of, seen};
@@ -12,6 +12,8 @@ use crate::{Source, Winner};
 use css_cascade::{Origin, Rollback, Weight, beats};
 use css_sheet::SheetRule;
 use css_syntax::Declaration;
+use css_values::is_valid;
+use std::alloc::{AllocError, Global};
 
 /// The texts of an element's own declarations.
 #[derive(Clone, Copy)]
@@ -87,6 +89,18 @@ impl<'a> Contender<'a> {
                 place,
             },
         }
+    }
+
+    /// Whether it is a declaration at all: each reference `var()` of its value is valid. A value that the end
+    /// of the text closes is taken as it is.
+    pub(crate) fn is_declared(&self, alloc: Global) -> Result<bool, AllocError>
+        ensures { IfOk result (λ declared. declared ≡ is_declared_of (contender_of self.now)) }
+    {
+        let declaration = &self.winner.declaration;
+        if !declaration.closed {
+            return Ok(true);
+        }
+        is_valid(alloc, declaration.value)
     }
 }
 

@@ -5,18 +5,20 @@ ghost use Rattle.std.specs.Prelude.{filter, not, map, length, slice_get, vec_len
 ghost use Rattle.std.specs.List.{All};
 ghost use Rattle.std.specs.Option.{option_map};
 ghost use Rattle.css_cascade.specs.WeightViews.{weighed};
-ghost use Rattle.css_cascade.specs.Cascade.{better};
+ghost use Rattle.css_cascade.specs.Cascade.{better, cascade_cmp as cascade_cmp_of};
 ghost use Rattle.css_styles.specs.StyleViews.{winner_of};
-ghost use Rattle.css_styles.specs.Winners.{as_winner, counting_each, is_beaten, unbeaten};
+ghost use Rattle.css_styles.specs.Winners.{applied, as_winner, counting_each, in_order, unbeaten};
 ghost use Rattle.css_styles.specs.internal.Floors.{is_over as is_over_of, ranked_of};
-ghost use Rattle.css_styles.specs.internal.Numbered.{IsNoted, IsNumbered, is_kept as is_kept_of};
+ghost use Rattle.css_styles.specs.internal.Numbered.{IsNoted, IsNumbered, is_best_by, is_kept as is_kept_of};
 ghost use Rattle.css_styles.specs.internal.Numbered.{numbered_of, weight_of};
 
 use crate::Winner;
 use crate::contenders::Contender;
 use crate::floors::{Ranked, Standing, find_standings, rank};
-use css_cascade::{Weight, beats, is_left};
+use crate::settling::settle;
+use css_cascade::{Weight, beats, cascade_cmp, is_left};
 use std::alloc::{AllocError, Global};
+use std::cmp::Ordering;
 
 /// A declaration that applies to an element, with the number of its property.
 #[derive(Clone, Copy)]
@@ -178,48 +180,51 @@ fn roll_back(
     Ok(())
 }
 
-/// Whether no other declaration of its property beats this one.
+/// Whether no other declaration of its property beats this one, by what is noted of the property.
 fn is_unbeaten(one: &Numbered<'_>, best: &[Option<Weight>]) -> bool
-    requires { one.now.property < length best.now }
-    ensures { (all : List Numbered) (properties : List (List ℕ)) → All (IsNumbered properties) all
-        → IsNumbered properties one.now → IsNoted all best.now one.now
-        → result ≡ not (is_beaten (map numbered_of all) (numbered_of one.now)) }
+    ensures { result ≡ is_best_by (slice_get best.now one.now.property) (weight_of one.now) }
 {
-    match &best[one.property] {
-        Some(weight) => !beats(weight, &one.contender.weight),
-        None => true,
+    match best.get(one.property) {
+        Some(Some(weight)) => !beats(weight, &one.contender.weight),
+        _ => true,
     }
 }
 
-/// Appends the declaration, if it is wanted.
-fn push_if<'a>(
-    found: &mut Vec<Winner<'a>>,
-    one: &Numbered<'a>,
-    is_wanted: bool,
-) -> Result<(), AllocError>
-    ensures { OnOk result (map winner_of found.new.items ≡ map winner_of found.old.items
-        ++ (if is_wanted then as_winner (numbered_of one.now) ∷ [] else [])) }
+/// Leaves those that no other of the same property beats.
+fn keep_unbeaten(contenders: &mut Vec<Numbered<'_>>, best: &[Option<Weight>])
+    requires numbered { (properties : List (List ℕ)) × All (IsNumbered properties) contenders.old.items }
+    requires noted { All (IsNoted contenders.old.items best.now) contenders.old.items }
+    ensures { map numbered_of contenders.new.items ≡ unbeaten (map numbered_of contenders.old.items) }
 {
-    if is_wanted {
-        found.push(one.contender.winner)?;
-    }
+    contenders.retain(
+        |one: &Numbered<'_>| -> bool
+            ensures { result ≡ is_best_by (slice_get best.entry.now one.now.property) (weight_of one.now) }
+        { is_unbeaten(one, best) },
+    );
+}
+
+/// Puts these in the order of the cascade.
+fn put_in_order(contenders: &mut Vec<Numbered<'_>>) -> Result<(), AllocError>
+    ensures { OnOk result (map numbered_of contenders.new.items ≡ in_order (map numbered_of contenders.old.items)) }
+{
+    contenders.sort_by(
+        |one: &Numbered<'_>, other: &Numbered<'_>| -> Ordering
+            ensures { result ≡ cascade_cmp_of (weight_of one.now) (weight_of other.now) }
+        { cascade_cmp(&one.contender.weight, &other.contender.weight) },
+    )?;
     Ok(())
 }
 
-/// Appends those that no other of the same property beats.
-fn push_unbeaten<'a>(
+/// Appends the declarations.
+fn push_winners<'a>(
     contenders: &[Numbered<'a>],
-    best: &[Option<Weight>],
     found: &mut Vec<Winner<'a>>,
 ) -> Result<(), AllocError>
-    requires within { All (λ n. n.property < length best.now) contenders.now }
-    requires numbered { (properties : List (List ℕ)) × All (IsNumbered properties) contenders.now }
-    requires noted { All (IsNoted contenders.now best.now) contenders.now }
     ensures { OnOk result (map winner_of found.new.items ≡ map winner_of found.old.items
-        ++ map as_winner (unbeaten (map numbered_of contenders.now))) }
+        ++ map as_winner (map numbered_of contenders.now)) }
 {
     for one in contenders {
-        push_if(found, one, is_unbeaten(one, best))?;
+        found.push(one.contender.winner)?;
     }
     Ok(())
 }
@@ -242,9 +247,28 @@ pub(crate) fn make_room(
     Ok(())
 }
 
-/// Finds those that count and that no other of the same property beats, which replace the items of
-/// `found`. Only those that count are left of the declarations. After an error none are found.
-pub(crate) fn find_unbeaten<'a>(
+/// Leaves those that are applied to the element, in order.
+fn find_applied(
+    alloc: Global,
+    contenders: &mut Vec<Numbered<'_>>,
+    best: &mut [Option<Weight>],
+    standings: &mut [Standing],
+) -> Result<(), AllocError>
+    requires { (properties : List (List ℕ)) × (length properties ≤ length best.old)
+        × (length properties ≤ length standings.old)
+        × All (IsNumbered properties) contenders.old.items }
+    ensures { OnOk result (map numbered_of contenders.new.items
+        ≡ applied (map numbered_of contenders.old.items)) }
+{
+    settle(contenders);
+    roll_back(alloc, contenders, best, standings)?;
+    keep_unbeaten(contenders, best);
+    put_in_order(contenders)
+}
+
+/// Finds what is applied to an element of the declarations that apply, which replaces the items of `found`. Only
+/// these are left of the declarations. After an error none are found.
+pub(crate) fn find_winners<'a>(
     alloc: Global,
     contenders: &mut Vec<Numbered<'a>>,
     best: &mut [Option<Weight>],
@@ -254,13 +278,13 @@ pub(crate) fn find_unbeaten<'a>(
     requires { (properties : List (List ℕ)) × (length properties ≤ length best.old)
         × (length properties ≤ length standings.old)
         × All (IsNumbered properties) contenders.old.items }
-    ensures unbeaten { OnOk result (map winner_of found.new.items
-        ≡ map as_winner (unbeaten (counting_each (map numbered_of contenders.old.items)))) }
+    ensures applied { OnOk result (map winner_of found.new.items
+        ≡ map as_winner (applied (map numbered_of contenders.old.items))) }
     ensures err { OnErr result (found.new.items ≡ []) }
 {
     found.clear();
-    roll_back(alloc, contenders, best, standings)?;
-    let pushed = push_unbeaten(contenders, best, found);
+    find_applied(alloc, contenders, best, standings)?;
+    let pushed = push_winners(contenders, found);
     if pushed.is_err() {
         found.clear();
     }

@@ -1,9 +1,9 @@
 //! Gathers the declarations that apply to an element.
-ghost use Rattle.std.specs.Prelude.{◌≡◌, ◌++◌, ◌<◌, ℕ, List, IfOk, OnOk, length, map};
+ghost use Rattle.std.specs.Prelude.{◌≡◌, ◌++◌, ◌∷◌, ◌<◌, ℕ, List, [], IfOk, OnOk, filter, length, map};
 ghost use Rattle.std.specs.List.{All, flat_map};
-ghost use Rattle.css_styles.specs.Contenders.{in_turn, of_own, own_declarations};
+ghost use Rattle.css_styles.specs.Contenders.{in_turn, is_declared, of_own, own_declarations, stated_at};
 ghost use Rattle.css_styles.specs.StyleViews.{own_of};
-ghost use Rattle.css_styles.specs.internal.Stepping.{in_own, stated_at};
+ghost use Rattle.css_styles.specs.internal.Stepping.{contender_of, in_own};
 ghost use Rattle.css_styles.specs.internal.Numbered.{HasNumber, IsMore, IsNumbered, numbered_of};
 
 use crate::contenders::{Contender, OwnPart};
@@ -69,6 +69,31 @@ fn number_own<'a>(
     Ok(known.len() + number)
 }
 
+/// Appends a contender with the number of its property, if it is a declaration at all.
+fn push_valid<'a>(
+    alloc: Global,
+    known: &Properties<'_>,
+    others: &mut Properties<'a>,
+    contender: Contender<'a>,
+    contenders: &mut Vec<Numbered<'a>>,
+) -> Result<(), AllocError>
+    requires { All (IsNumbered (known.now ++ others.old)) contenders.old.items }
+    ensures contenders { OnOk result (map numbered_of contenders.new.items ≡ map numbered_of contenders.old.items
+        ++ filter is_declared (contender_of contender.entry ∷ [])) }
+    ensures numbered { OnOk result (All (IsNumbered (known.now ++ others.new)) contenders.new.items) }
+{
+    if !contender.is_declared(alloc)? {
+        return Ok(());
+    }
+    let name = contender.winner.declaration.name;
+    let property = number_own(alloc, name, known, others)?;
+    contenders.push(Numbered {
+        contender,
+        property,
+    })?;
+    Ok(())
+}
+
 /// Appends the declarations of one of the element's own texts.
 fn push_text<'a>(
     alloc: Global,
@@ -90,11 +115,8 @@ fn push_text<'a>(
     let mut declarations = Declarations::new(text);
     'items: while let Some(part_of_text) = declarations.next() {
         if let Item::Declaration(one) = part_of_text.item {
-            let property = number_own(alloc, one.name, known, others)?;
-            contenders.push(Numbered {
-                contender: Contender::in_own(part, place, one),
-                property,
-            })?;
+            let contender = Contender::in_own(part, place, one);
+            push_valid(alloc, known, others, contender, contenders)?;
             place += 1;
         }
     }

@@ -25,12 +25,13 @@ mod laws;
 mod numbered_rules;
 mod one_property;
 mod properties;
+mod settling;
 mod stated;
 mod style_rules;
 mod styles;
 mod winner;
 
-pub use laws::rollback_law;
+pub use laws::{one_law, rollback_law};
 pub use one_property::winning;
 pub use style_rules::StyleRules;
 pub use styles::Styles;

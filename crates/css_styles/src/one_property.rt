@@ -1,35 +1,34 @@
 //! Which declaration of one property wins on an element.
-ghost use Rattle.std.specs.Prelude.{◌≡◌, ◌++◌, ◌∷◌, Bool, List, [], true, false, IfOk, OnOk, map, option_map};
+ghost use Rattle.std.specs.Prelude.{◌≡◌, ◌++◌, ◌∷◌, ℕ, List, [], true, false, IfOk, OnOk, filter, map, option_map};
 ghost use Rattle.css_syntax.specs.DeclarationLists.{items};
 ghost use Rattle.css_syntax.specs.Views.{item_of};
-ghost use Rattle.css_selectors.specs.Components.{Selector};
-ghost use Rattle.css_selectors.specs.Meanings.{Matches};
 ghost use Rattle.css_sheet.specs.SheetRuleViews.{sheet_rule_of};
-ghost use Rattle.css_styles.specs.Contenders.{contenders, declared_in, in_rule, in_turn};
-ghost use Rattle.css_styles.specs.Contenders.{of_own, of_property, of_rule, own_declarations, rule_declarations};
+ghost use Rattle.css_styles.specs.Contenders.{contenders, declared_in, in_rule, in_turn, is_declared};
+ghost use Rattle.css_styles.specs.Contenders.{of_own, of_property, own_declarations, rule_declarations};
 ghost use Rattle.css_styles.specs.StyleViews.{own_of, winner_of};
-ghost use Rattle.css_styles.specs.Winners.{Decides, IsWinner};
-ghost use Rattle.css_styles.specs.internal.Stepping.{contender_of, in_own, is_stated_by, stated_of};
+ghost use Rattle.css_styles.specs.Winners.{AreStating, IsWinner};
+ghost use Rattle.css_styles.specs.internal.Stepping.{IsTaken, contender_of, in_own, is_stated_by, stated_of};
 
 use crate::contenders::{Contender, OwnPart, won};
 use crate::decide::decide;
 use crate::properties::is_property;
 use crate::{Own, Winner};
-use css_selectors::Element;
+use css_selectors::{Element, Matching};
 use css_sheet::SheetRule;
 use css_syntax::{Declarations, Item};
 use std::alloc::{AllocError, Global};
 
-/// Appends the declaration, if it is one of the property.
+/// Appends the declaration, if it is one of the property, and one at all.
 fn push_if_of<'a>(
+    alloc: Global,
     rivals: &mut Vec<Contender<'a>>,
     property: &str,
     one: Contender<'a>,
 ) -> Result<(), AllocError>
     ensures { OnOk result (map contender_of rivals.new.items ≡ map contender_of rivals.old.items
-        ++ of_property property.now (contender_of one.entry ∷ [])) }
+        ++ of_property property.now (filter is_declared (contender_of one.entry ∷ []))) }
 {
-    if is_property(property, one.winner.declaration.name) {
+    if is_property(property, one.winner.declaration.name) && one.is_declared(alloc)? {
         rivals.push(one)?;
     }
     Ok(())
@@ -60,6 +59,7 @@ fn states(property: &str, block: &str) -> bool
 
 /// Appends the declarations of the property that a rule states.
 fn push_block<'a>(
+    alloc: Global,
     rivals: &mut Vec<Contender<'a>>,
     property: &str,
     rule: &SheetRule<'a>,
@@ -74,7 +74,7 @@ fn push_block<'a>(
     'items: while let Some(part) = declarations.next() {
         if let Item::Declaration(one) = part.item {
             let contender = Contender::in_rule(rule, rule_place, place, one);
-            push_if_of(rivals, property, contender)?;
+            push_if_of(alloc, rivals, property, contender)?;
             place += 1;
         }
     }
@@ -84,22 +84,21 @@ fn push_block<'a>(
 /// The same of a rule, which may apply to the element or not. A rule that states nothing of the property
 /// is not matched.
 fn push_rule<'a, E: Element>(
+    alloc: Global,
     rivals: &mut Vec<Contender<'a>>,
     property: &str,
     rule: &SheetRule<'a>,
     rule_place: usize,
     element: &E,
 ) -> Result<(), AllocError>
-    ensures { (matches : Selector → Bool)
-        → Decides matches (λ s. Matches E.document s (E.node element.now))
-        → OnOk result (map contender_of rivals.new.items ≡ map contender_of rivals.old.items
-        ++ of_property property.now (of_rule matches rule_place (sheet_rule_of rule.now))) }
+    ensures { OnOk result (IsTaken E.document (E.node element.now) property.now rule_place
+        (sheet_rule_of rule.now) (map contender_of rivals.old.items) (map contender_of rivals.new.items)) }
 {
     if rule.pseudo_element.is_some() || !states(property, rule.block) {
         return Ok(());
     }
     if rule.selector.matches(element) {
-        push_block(rivals, property, rule, rule_place)
+        push_block(alloc, rivals, property, rule, rule_place)
     } else {
         Ok(())
     }
@@ -107,6 +106,7 @@ fn push_rule<'a, E: Element>(
 
 /// The same of one of the element's own texts.
 fn push_text<'a>(
+    alloc: Global,
     rivals: &mut Vec<Contender<'a>>,
     property: &str,
     part: OwnPart,
@@ -120,7 +120,7 @@ fn push_text<'a>(
     'items: while let Some(part_of_text) = declarations.next() {
         if let Item::Declaration(one) = part_of_text.item {
             let contender = Contender::in_own(part, place, one);
-            push_if_of(rivals, property, contender)?;
+            push_if_of(alloc, rivals, property, contender)?;
             place += 1;
         }
     }
@@ -129,6 +129,7 @@ fn push_text<'a>(
 
 /// The same of the element's own declarations.
 fn push_own<'a>(
+    alloc: Global,
     rivals: &mut Vec<Contender<'a>>,
     property: &str,
     own: Own<'a>,
@@ -136,8 +137,9 @@ fn push_own<'a>(
     ensures { OnOk result (map contender_of rivals.new.items ≡ map contender_of rivals.old.items
         ++ of_property property.now (of_own (own_of own.entry))) }
 {
-    push_text(rivals, property, OwnPart::Presentation, own.presentation)?;
-    push_text(rivals, property, OwnPart::Style, own.style)
+    let (presentation, style) = (OwnPart::Presentation, OwnPart::Style);
+    push_text(alloc, rivals, property, presentation, own.presentation)?;
+    push_text(alloc, rivals, property, style, own.style)
 }
 
 /// Returns the declaration of a property that wins on an element with these of its own, of rules in the
@@ -149,9 +151,9 @@ fn push_own<'a>(
 /// greater specificity, and then the one that is later. As long as the one that wins is `revert` or
 /// `revert-layer`, what is of its origin, or in its layer, and what is after that do not count.
 ///
-/// Rules with a pseudo-element do not apply to the element. A name is compared as it is written, in
-/// any case of its ASCII letters if it is not that of a custom property (`--x`); shorthands are not
-/// expanded.
+/// Rules with a pseudo-element do not apply to the element, and a declaration with an invalid `var()` is none. A
+/// name is compared as it is written, in any case of its ASCII letters if it is not that of a custom property
+/// (`--x`); shorthands are not expanded.
 pub fn winning<'a, E: Element>(
     alloc: Global,
     rules: &[SheetRule<'a>],
@@ -159,21 +161,21 @@ pub fn winning<'a, E: Element>(
     own: Own<'a>,
     property: &str,
 ) -> Result<Option<Winner<'a>>, AllocError>
-    ensures { (matches : Selector → Bool)
-        → Decides matches (λ s. Matches E.document s (E.node element.now))
-        → IfOk result (λ found. IsWinner
-        (of_property property.now (contenders matches (map sheet_rule_of rules.now) (own_of own.entry)))
+    ensures { IfOk result (λ found. (indices : List ℕ)
+        × AreStating E.document (E.node element.now) property.now (map sheet_rule_of rules.now) indices
+        × IsWinner
+        (of_property property.now (contenders (map sheet_rule_of rules.now) indices (own_of own.entry)))
         (option_map winner_of found)) }
 {
     let mut rivals = Vec::new(alloc);
     let mut place: usize = 0;
     let mut rest = rules;
     'rules: while let [rule, after @ ..] = rest {
-        push_rule(&mut rivals, property, rule, place, element)?;
+        push_rule(alloc, &mut rivals, property, rule, place, element)?;
         place += 1;
         rest = after;
     }
-    push_own(&mut rivals, property, own)?;
+    push_own(alloc, &mut rivals, property, own)?;
     let best = decide(alloc, &mut rivals)?;
     Ok(won(best))
 }

@@ -1,9 +1,10 @@
 //! Declarations of rules, each read once, with what the cascade sees of them.
-ghost use Rattle.std.specs.Prelude.{◌≡◌, IfOk, OnOk, map};
+ghost use Rattle.std.specs.Prelude.{◌≡◌, ◌++◌, ◌∷◌, [], IfOk, OnOk, filter, map};
 ghost use Rattle.std.specs.List.{All};
 ghost use Rattle.css_sheet.specs.SheetRuleViews.{sheet_rule_of};
-ghost use Rattle.css_styles.specs.Contenders.{in_rule, in_turn, rule_declarations};
+ghost use Rattle.css_styles.specs.Contenders.{in_rule, in_turn, is_declared, rule_declarations};
 ghost use Rattle.css_styles.specs.internal.Numbered.{IsMore, IsNumbered, numbered_of};
+ghost use Rattle.css_styles.specs.internal.Stepping.{contender_of};
 
 use crate::contenders::Contender;
 use crate::contest::Numbered;
@@ -31,6 +32,27 @@ fn number_one<'a>(
     })
 }
 
+/// Appends a contender with the number of its property, if it is a declaration at all.
+fn push_valid<'a>(
+    alloc: Global,
+    contender: Contender<'a>,
+    properties: &mut Properties<'a>,
+    stated: &mut Vec<Numbered<'a>>,
+) -> Result<(), AllocError>
+    requires { All (IsNumbered properties.old) stated.old.items }
+    ensures declarations { OnOk result (map numbered_of stated.new.items ≡ map numbered_of stated.old.items
+        ++ filter is_declared (contender_of contender.entry ∷ [])) }
+    ensures numbers { OnOk result (All (IsNumbered properties.new) stated.new.items) }
+    ensures more { OnOk result (IsMore properties.old properties.new) }
+{
+    if !contender.is_declared(alloc)? {
+        return Ok(());
+    }
+    let numbered = number_one(alloc, contender, properties)?;
+    stated.push(numbered)?;
+    Ok(())
+}
+
 /// Returns the declarations of a rule, which is one of all, with the numbers of their properties.
 pub(crate) fn read_stated<'a>(
     alloc: Global,
@@ -49,8 +71,7 @@ pub(crate) fn read_stated<'a>(
     'items: while let Some(part) = declarations.next() {
         if let Item::Declaration(one) = part.item {
             let contender = Contender::in_rule(rule, rule_place, place, one);
-            let numbered = number_one(alloc, contender, properties)?;
-            stated.push(numbered)?;
+            push_valid(alloc, contender, properties, &mut stated)?;
             place += 1;
         }
     }

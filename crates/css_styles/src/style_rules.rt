@@ -50,8 +50,8 @@ pub struct StyleRules<'a> {
 impl<'a> Model for StyleRules<'a> {
     ghost use Rattle.std.specs.Prelude.{map};
     ghost use Rattle.std.specs.Coded.{Coded, codes};
-    ghost use Rattle.css_selectors.specs.Codes.{condition_code, selectors_code};
-    ghost use Rattle.css_selectors.specs.Components.{Simple};
+    ghost use Rattle.css_selector_text.specs.Codes.{condition_code, selectors_code};
+    ghost use Rattle.css_selector_text.specs.Components.{Simple};
     ghost use Rattle.css_selectors.specs.MarkedLists.{list_of};
     ghost use Rattle.css_sheet.specs.SheetRuleViews.{sheet_rule_of};
     ghost use Rattle.css_styles.specs.StyleViews.{StyleRulesText};

@@ -1,19 +1,18 @@
 //! A walk along a page, for the declarations that win.
-ghost use Rattle.std.specs.Prelude.{◌≡◌, ◌<◌, ◌^◌, ℕ, Bool, List, [], IfOk, OnOk, OnErr, length, map, option_map};
+ghost use Rattle.std.specs.Prelude.{◌≡◌, ◌<◌, ◌^◌, ℕ, List, [], IfOk, OnOk, OnErr, length, map, option_map};
 ghost use Rattle.css_matching.specs.ListTrees.{spot};
-ghost use Rattle.css_selectors.specs.Components.{Selector as SelectorText};
-ghost use Rattle.css_selectors.specs.Meanings.{Matches};
+ghost use Rattle.css_index.specs.Found.{AreMatches};
 ghost use Rattle.css_index.specs.Tested.{AreTried};
 ghost use Rattle.css_tree.specs.Pages.{Page, page_document};
 ghost use Rattle.css_tree.specs.Reports.{reported_of};
 ghost use Rattle.css_tree.specs.Walks.{IsOpenAt};
 ghost use Rattle.css_styles.specs.Contenders.{contenders};
 ghost use Rattle.css_styles.specs.StyleViews.{StylesText, names_of, own_of, winner_of};
-ghost use Rattle.css_styles.specs.Winners.{AreReadBy, AreWinners, Decides, winners};
+ghost use Rattle.css_styles.specs.Winners.{AreWinners, winners};
 
 use crate::asked::find_asked;
 use crate::contenders::Contender;
-use crate::contest::{Numbered, find_unbeaten, make_room};
+use crate::contest::{Numbered, find_winners, make_room};
 use crate::floors::Standing;
 use crate::gathering::gather;
 use crate::{Own, StyleRules, Winner};
@@ -28,7 +27,7 @@ use std::marker::Model;
 /// Elements may be asked in any order. Where each comes after the last one in the order of the document,
 /// it opens each element at most once, and only those with children. What a call takes beside the tests is
 /// linear in the declarations of the rules that match the element and of its style attribute, but
-/// for finding the names of the latter, and for sorting all of them where one is rolled back.
+/// for finding the names of the latter, and for sorting those that win, or all of them where one is rolled back.
 #[derive(Drop)]
 pub struct Styles<'s, 'a, 'w> {
     /// The rules.
@@ -52,8 +51,8 @@ pub struct Styles<'s, 'a, 'w> {
 impl<'s, 'a, 'w> Model for Styles<'s, 'a, 'w> {
     ghost use Rattle.std.specs.Prelude.{◌≡◌, length};
     ghost use Rattle.std.specs.Coded.{Coded, codes};
-    ghost use Rattle.css_selectors.specs.Codes.{condition_code};
-    ghost use Rattle.css_selectors.specs.Components.{Simple};
+    ghost use Rattle.css_selector_text.specs.Codes.{condition_code};
+    ghost use Rattle.css_selector_text.specs.Components.{Simple};
     ghost use Rattle.css_styles.specs.StyleViews.{StylesText};
 
     ghost Value = { StylesText };
@@ -130,8 +129,10 @@ impl<'s, 'a, 'w> Styles<'s, 'a, 'w> {
 
     /// Finds the declarations that win on the element at an index that has these of its own, and counts the
     /// tests as [`TreeWalk::matching`] does: for each property the one that counts and that no other that does
-    /// beats, in the order of rules and of declarations in them, then those of its presentation declarations,
-    /// and those of its style attribute last. A walk is of one page alone.
+    /// beats. They are in the order of the cascade, the strongest last, so that each is to be applied after those
+    /// before it: those of origins and layers in turn, presentation declarations before the author's rules,
+    /// and those of the style attribute after all rules; then the important ones, of which those of an earlier
+    /// origin or layer are later. A walk is of one page alone.
     ///
     /// An important declaration wins over others; then the origins decide, the presentation declarations being
     /// hints; then one of the attribute wins over those of rules; of those that are not important one in a
@@ -143,8 +144,9 @@ impl<'s, 'a, 'w> Styles<'s, 'a, 'w> {
     /// As long as the one that wins for a property has the value `revert` or `revert-layer`, what is of its
     /// origin, or in its layer, and what is after that do not count for the property: hints are the author's
     /// for `revert`, and a style attribute is a layer after all others. `revert` of the user agent's wins as
-    /// it is. If none counts, none wins. Where something is rolled back, all that apply are sorted
-    /// once, however many layers and origins are rolled back.
+    /// it is, and so does a `revert` or `revert-layer` with nothing before it, in no origin and no layer and of no
+    /// property: it leaves what the declarations before it set. Else, if none counts, none wins. Where something is
+    /// rolled back, all that apply are sorted once, however many layers and origins are rolled back.
     ///
     /// The previous items of `found` are dropped. Fails only if an allocation fails; then no items are
     /// left, and the walk goes on.
@@ -158,11 +160,9 @@ impl<'s, 'a, 'w> Styles<'s, 'a, 'w> {
     ) -> Result<(), AllocError>
         requires element { element < length page.now.rows }
         requires opened { IsOpenAt page.now self.old.walk self.old.place }
-        ensures winners { (read : SelectorText → SelectorText) (matches : SelectorText → Bool)
-            → AreReadBy read self.old.rules self.old.walk.selectors
-            → Decides matches (λ s. Matches page_document (read s) (spot page.now element))
-            → OnOk result (map winner_of found.new.items
-            ≡ winners matches self.old.rules (own_of own.entry)) }
+        ensures winners { OnOk result ((indices : List ℕ)
+            × AreMatches page_document (spot page.now element) self.old.walk.selectors indices
+            × (map winner_of found.new.items ≡ winners self.old.rules indices (own_of own.entry))) }
         ensures tests { OnOk result ((tried : List ℕ)
             × AreTried page_document (spot page.now element) (reported_of (spot page.now element))
             self.new.walk tried tests.old tests.new) }
@@ -178,7 +178,7 @@ impl<'s, 'a, 'w> Styles<'s, 'a, 'w> {
         let count = gather(self.alloc, self.rules, &self.matching, own, all)?;
         make_room(&mut self.best, &mut self.standings, count)?;
         let best = &mut self.best;
-        find_unbeaten(
+        find_winners(
             self.alloc,
             &mut self.contenders,
             best,
@@ -206,10 +206,9 @@ impl<'s, 'a, 'w> Styles<'s, 'a, 'w> {
     ) -> Result<(), AllocError>
         requires element { element < length page.now.rows }
         requires opened { IsOpenAt page.now self.old.walk self.old.place }
-        ensures winners { (read : SelectorText → SelectorText) (matches : SelectorText → Bool)
-            → AreReadBy read self.old.rules self.old.walk.selectors
-            → Decides matches (λ s. Matches page_document (read s) (spot page.now element))
-            → OnOk result (AreWinners (contenders matches self.old.rules (own_of own.entry))
+        ensures winners { OnOk result ((indices : List ℕ)
+            × AreMatches page_document (spot page.now element) self.old.walk.selectors indices
+            × AreWinners (contenders self.old.rules indices (own_of own.entry))
             (names_of asked.now) (map (option_map winner_of) found.new.items)) }
         ensures tests { OnOk result ((tried : List ℕ)
             × AreTried page_document (spot page.now element) (reported_of (spot page.now element))

@@ -7,14 +7,14 @@ use Rattle.std.proofs.lemmas.List.{get_or-map, get_or-take, length-map}
 use Rattle.css_matching.specs.declared.Combinator.{Combinator}
 use Rattle.css_matching.specs.ListTrees.{spot}
 use Rattle.css_matching.specs.Placements.{HasPlacement}
-use Rattle.css_selectors.specs.Components.{ListTest, Progression, Structure, Simple, Condition, Conditions, Parts, Selectors, Selector, parts_from}
-use Rattle.css_selectors.specs.Components.Structure.{root, scope, empty, first_child, last_child, only_child, first_of_type, last_of_type, only_of_type, nth_child as nth_child_place, nth_last_child as nth_last_child_place, nth_of_type, nth_last_of_type}
-use Rattle.css_selectors.specs.Components.ListTest.{has, nth_child, nth_last_child}
-use Rattle.css_selectors.specs.Components.Simple.{universal, type_name, id, class, has_attribute, attribute, structure, language, state, function, named_element, nesting, namespaced}
-use Rattle.css_selectors.specs.Components.Condition.{simple, negation, any_of, where_any, tested as tested_condition}
-use Rattle.css_selectors.specs.Components.Conditions.{end_of_compound, with_condition}
-use Rattle.css_selectors.specs.Components.Parts.{end_of_selector, with_part}
-use Rattle.css_selectors.specs.Components.Selectors.{end_of_list, with_selector}
+use Rattle.css_selector_text.specs.Components.{ListTest, Progression, Structure, Simple, Condition, Conditions, Parts, Selectors, Selector, parts_from}
+use Rattle.css_selector_text.specs.Components.Structure.{root, scope, empty, first_child, last_child, only_child, first_of_type, last_of_type, only_of_type, nth_child as nth_child_place, nth_last_child as nth_last_child_place, nth_of_type, nth_last_of_type}
+use Rattle.css_selector_text.specs.Components.ListTest.{has, nth_child, nth_last_child}
+use Rattle.css_selector_text.specs.Components.Simple.{universal, type_name, id, class, has_attribute, attribute, structure, language, state, function, named_element, nesting, namespaced}
+use Rattle.css_selector_text.specs.Components.Condition.{simple, negation, any_of, where_any, tested as tested_condition}
+use Rattle.css_selector_text.specs.Components.Conditions.{end_of_compound, with_condition}
+use Rattle.css_selector_text.specs.Components.Parts.{end_of_selector, with_part}
+use Rattle.css_selector_text.specs.Components.Selectors.{end_of_list, with_selector}
 use Rattle.css_selectors.specs.Documents.{shape}
 use Rattle.css_selectors.specs.MarkedLists.{ListText}
 use Rattle.css_selectors.specs.MarkedLists.ListText.{matched, tested}
@@ -25,7 +25,7 @@ use Rattle.css_tree.specs.declared.nth_marks.End.TheVariants.{First, Last}
 use Rattle.css_tree.specs.Asked.{SimpleAsksBelow, AsksBelow, CompoundAsksBelow, PartsAskBelow, ListAsksBelow, SelectorAsksBelow, AskEarlier, MarkedAsksBelow, AskBefore}
 use Rattle.css_tree.specs.Counts.{last_below}
 use Rattle.css_tree.specs.HasSelectors.{HasAny}
-use Rattle.css_tree.specs.Marks.{AreMarked, MatchesOne, IsNumberedMatch, IsTested, IsMarkedBy, sibling_toward, with_marks}
+use Rattle.css_tree.specs.Marks.{AreMarked, MatchesOne, IsNumberedMatch, IsTested, IsMarkedBy, IsMarkedInside, sibling_toward, with_marks}
 use Rattle.css_tree.specs.NextSiblings.{next_index}
 use Rattle.css_tree.specs.Steps.{Leads}
 use Rattle.css_tree.specs.Pages.{Page, page_document, parent_index, is_sibling, is_in_list, is_marked, is_scope}
@@ -84,7 +84,7 @@ module _ (page : Page) (m n : List (List Bool)) (limit : ℕ)
   asked_same zero i lt = scope_same i page.given.scope
   asked_same (suc list) i lt = same list i (omega arith)
 
-  structure_same : (s : Structure) (i : ℕ)
+  pub structure_same : (s : Structure) (i : ℕ)
       → is_placed page_document (spot (with_marks page m) i) s
       ≡ is_placed page_document (spot (with_marks page n) i) s
   structure_same root i = none_same (with_marks page m) (with_marks page n) (parent_index page.rows i)
@@ -244,31 +244,55 @@ module _ (page : Page) (m n : List (List Bool)) (limit : ℕ)
         ),
       )
 
+-- the same marks inside `:has()`, too
+module _ (page : Page) (m n k l : List (List Bool)) (limit : ℕ)
+    (same : (list i : ℕ) → list < limit → is_marked m list i ≡ is_marked n list i)
+    (same_inside : (list i : ℕ) → list < limit → is_marked k list i ≡ is_marked l list i) where
   tested_same : (test : ListTest) (ss : Selectors) (i : ℕ) → i < length page.rows
       → ListAsksBelow (suc limit) ss
-      → IsTested test ss (with_marks page m) i ↔ IsTested test ss (with_marks page n) i
-  tested_same has ss i within asks = has_same ss i within asks
+      → IsTested test ss (with_marks page m) (with_marks page k) i
+      ↔ IsTested test ss (with_marks page n) (with_marks page l) i
+  tested_same has ss i within asks = has_same page k l limit same_inside ss i within asks
   tested_same (nth_child p) ss i within asks =
-      nth_same First (λ j. last_below (is_sibling page.rows j) j) (λ j. refl) (λ j. refl) p ss i asks
+      nth_same page m n limit same First (λ j. last_below (is_sibling page.rows j) j) (λ j. refl)
+      (λ j. refl) p ss i asks
   tested_same (nth_last_child p) ss i within asks =
-      nth_same Last (next_index page.rows) (λ j. refl) (λ j. refl) p ss i asks
+      nth_same page m n limit same Last (next_index page.rows) (λ j. refl) (λ j. refl) p ss i asks
 
   marked_same : (list : ListText) (i : ℕ) → i < length page.rows → MarkedAsksBelow (suc limit) list
-      → IsMarkedBy list (with_marks page m) i ↔ IsMarkedBy list (with_marks page n) i
-  marked_same (matched selectors) i within asks = one_same selectors i asks
+      → IsMarkedBy list (with_marks page m) (with_marks page k) i
+      ↔ IsMarkedBy list (with_marks page n) (with_marks page l) i
+  marked_same (matched selectors) i within asks = one_same page m n limit same selectors i asks
   marked_same (tested test ss) i within asks = tested_same test ss i within asks
 
 -- ---- marked pages
 
-pub marked_matches : (lists : List ListText) (page : Page) → AreMarked lists page
+-- the first marks are those of all
+taken : (list : ℕ) (marks : List (List Bool)) (l j : ℕ) → l < list
+    → is_marked (take list marks) l j ≡ is_marked marks l j
+taken list marks l j less = ap (λ answers. get_or answers j false) (get_or-take list marks l [] less)
+
+pub marked_matches : (lists : List ListText) (page : Page) → (are : AreMarked lists page)
     → AskBefore lists → (list i : ℕ) → list < length lists → i < length page.rows
-    → IsTrue (is_in_list page i (suc list)) ↔ IsMarkedBy (get_or lists list (matched [])) page i
+    → IsTrue (is_in_list page i (suc list))
+    ↔ IsMarkedBy (get_or lists list (matched [])) page (with_marks page are.inside) i
 marked_matches lists page are asks list i lt within =
-    let answered = are.each list i lt within in
-    let k = marked_same page (take list page.marks) page.marks list
-    (λ l j less. ap (λ answers. get_or answers j false) (get_or-take list page.marks l [] less))
+    let answered = are.own.each list i lt within in
+    let k = marked_same page (take list page.marks) page.marks (take list are.inside) are.inside list
+    (taken list page.marks) (taken list are.inside)
     (get_or lists list (matched [])) i within (asks list lt) in
     (λ h. k.0 (answered.0 h), λ h. answered.1 (k.1 h))
+
+pub inside_matches : (lists : List ListText) (page : Page) → (are : AreMarked lists page)
+    → AskBefore lists → (list i : ℕ) → list < length lists → i < length page.rows
+    → IsTrue (is_in_list (with_marks page are.inside) i (suc list))
+    ↔ IsMarkedInside (get_or lists list (matched [])) (with_marks page are.inside) i
+inside_matches lists page are asks list i lt within =
+    let answered = are.within.each list i lt within in
+    let k = marked_same page (take list are.inside) are.inside (take list are.inside) are.inside list
+    (taken list are.inside) (taken list are.inside)
+    (get_or lists list (matched [])) i within (asks list lt) in
+    (λ h. (let a = answered.0 h in (a.0, k.0 a.1)), λ h. answered.1 (h.0, k.1 h.1))
 
 -- lists of selectors that ask of those before them
 pub asks_matched : (lists : List (List Selector)) → AskEarlier lists → AskBefore (map matched lists)

@@ -11,8 +11,8 @@ use Rattle.std.specs.Ordering.{is_eq, nat_cmp}
 use Rattle.std.proofs.Math.Seq.{drop-cons}
 use Rattle.std.proofs.lemmas.Bool.Decides.{Decides-eqb}
 use Rattle.std.proofs.lemmas.Map.Text.{is_eq-slice_cmp}
-use Rattle.simplecss_tree.specs.Rows.{Row}
-use Rattle.simplecss_tree.specs.TreeNodes.{value_in, attribute_at, attributes_at}
+use Rattle.css_elements.specs.Rows.{Row}
+use Rattle.css_elements.specs.TreeNodes.{value_in, attribute_at, attributes_at}
 use Rattle.css_tree.specs.Attributes.{Values, AreNamed, AreFound}
 
 pub attribute-value : (rows : List Row) (i : ℕ) (name : List ℕ)

@@ -8,13 +8,13 @@ use Rattle.std.proofs.lemmas.List.{length_push, get_or_append_left, get_or-map, 
 use Rattle.std.proofs.lemmas.List.Elements.{All-head, All-tail}
 use Rattle.std.proofs.Math.Seq.{get_or-append_seam}
 use Rattle.css_matching.specs.ListTrees.{spot}
-use Rattle.css_selectors.specs.declared.components.Nesting.{Nesting}
-use Rattle.css_selectors.specs.Components.{Simple, Condition, Conditions, Part, Parts, Selectors, PseudoElement, Selector, parts_from, selectors_from}
-use Rattle.css_selectors.specs.Components.Simple.{universal, type_name, id, class, has_attribute, attribute, structure, language, state, function, named_element, nesting, namespaced}
-use Rattle.css_selectors.specs.Components.Condition.{simple, negation, any_of, where_any, tested}
-use Rattle.css_selectors.specs.Components.Conditions.{end_of_compound, with_condition}
-use Rattle.css_selectors.specs.Components.Parts.{end_of_selector, with_part}
-use Rattle.css_selectors.specs.Components.Selectors.{end_of_list, with_selector}
+use Rattle.css_selector_text.specs.declared.components.Nesting.{Nesting}
+use Rattle.css_selector_text.specs.Components.{Simple, Condition, Conditions, Part, Parts, Selectors, PseudoElement, Selector, parts_from, selectors_from}
+use Rattle.css_selector_text.specs.Components.Simple.{universal, type_name, id, class, has_attribute, attribute, structure, language, state, function, named_element, nesting, namespaced}
+use Rattle.css_selector_text.specs.Components.Condition.{simple, negation, any_of, where_any, tested}
+use Rattle.css_selector_text.specs.Components.Conditions.{end_of_compound, with_condition}
+use Rattle.css_selector_text.specs.Components.Parts.{end_of_selector, with_part}
+use Rattle.css_selector_text.specs.Components.Selectors.{end_of_list, with_selector}
 use Rattle.css_selectors.specs.MarkedLists.ListText.{matched}
 use Rattle.css_selectors.specs.Meanings.{IsMet, MatchesAny, IsPlaced, Matches}
 use Rattle.css_selectors.specs.SpelledOut.{spelled_simple, spelled_condition, spelled_compound, spelled_complex, spelled_list, spelled_part, spelled_element, spelled_by}
@@ -229,7 +229,8 @@ module _ (lists : List (List Selector)) (page : Page) (are : AreMarked (map matc
             (page, j)
         here =
             let within : k < length (map matched lists) = omega (arith, lt, length-map lists matched) in
-            let marked = subst (λ l. IsTrue (is_in_list page j (suc k)) ↔ IsMarkedBy l page j)
+            let inside = with_marks page are.inside in
+            let marked = subst (λ l. IsTrue (is_in_list page j (suc k)) ↔ IsMarkedBy l page inside j)
             (get_or-map matched lists k [] (matched []) lt)
             (marked_matches (map matched lists) page are (asks_matched lists asks) k j within
             at.within) in

@@ -3,8 +3,8 @@
 use Rattle.std.proofs.Common.{◌≡◌, ℕ, suc, ◌+◌, ◌↔◌, Bool, Option, None, Some, IsTrue, refl, ap, sym, ◌∙◌, subst}
 use Rattle.std.specs.Option.{option_map}
 use Rattle.css_matching.specs.ListTrees.{spot}
-use Rattle.css_selectors.specs.Components.{Progression}
-use Rattle.css_selectors.specs.Numbers.{is_numbered}
+use Rattle.css_selector_text.specs.Components.{Progression}
+use Rattle.css_selector_text.specs.reading.Numbers.{is_numbered}
 use Rattle.css_tree.specs.Pages.{Page}
 use Rattle.css_tree.specs.SiblingCounts.{HasCount, IsNumberedAmong}
 use Rattle.css_tree.specs.SiblingCounts.HasCount.{no_node, one_more, another}

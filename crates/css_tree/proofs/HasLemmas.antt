@@ -7,12 +7,12 @@ use Rattle.std.proofs.lemmas.List.{map_more}
 use Rattle.css_matching.specs.declared.Combinator.{Combinator}
 use Rattle.css_matching.specs.ListTrees.{spot}
 use Rattle.css_matching.specs.Placements.{Relates, IsPlacement}
-use Rattle.css_selectors.specs.declared.components.Complex.{Complex}
-use Rattle.css_selectors.specs.Components.{Part, Conditions, Parts, parts_from, selectors_from}
-use Rattle.css_selectors.specs.Components.Parts.{end_of_selector, with_part}
+use Rattle.css_selector_text.specs.declared.components.Complex.{Complex}
+use Rattle.css_selector_text.specs.Components.{Part, Conditions, Parts, parts_from, selectors_from}
+use Rattle.css_selector_text.specs.Components.Parts.{end_of_selector, with_part}
 use Rattle.css_selectors.specs.Documents.{shape}
 use Rattle.css_selectors.specs.Meanings.{part_count, AreMet, MeetsPart}
-use Rattle.css_selectors.specs.Views.{complex_of}
+use Rattle.css_selector_text.specs.Views.{complex_of}
 use Rattle.css_tree.specs.HasSelectors.{combinator_after, MeetsAfter, HasMatch, HasAny}
 use Rattle.css_tree.specs.Pages.{Page, page_document}
 use Rattle.css_tree.specs.Steps.{is_set, Leads}

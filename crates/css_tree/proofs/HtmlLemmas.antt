@@ -6,16 +6,16 @@ use Rattle.std.specs.Char.{to_ascii_lowercase, is_ascii_uppercase}
 use Rattle.std.specs.List.{list_any}
 use Rattle.std.proofs.lemmas.Bool.Decides.{nat_tests}
 use Rattle.std.proofs.lemmas.List.{map_more, map-append, take_all}
-use Rattle.css_selectors.specs.declared.components.Complex.{Complex}
-use Rattle.css_selectors.specs.declared.components.Condition.{Condition as ConditionOf, Not, Is, Where, Tested}
-use Rattle.css_selectors.specs.declared.components.ListTest.{ListTest}
-use Rattle.css_selectors.specs.Components.{Condition, Part, conditions_from, parts_from, selectors_from}
-use Rattle.css_selectors.specs.Components.Condition.{negation, any_of, where_any, tested}
-use Rattle.css_selectors.specs.Components.Conditions.{with_condition}
-use Rattle.css_selectors.specs.Components.Parts.{with_part}
-use Rattle.css_selectors.specs.Components.Selectors.{with_selector}
-use Rattle.css_selectors.specs.Views.{complex_of, condition_of, list_test_of}
-use Rattle.css_selectors.proofs.ConditionViews.{condition_not, condition_is, condition_where, condition_tested}
+use Rattle.css_selector_text.specs.declared.components.Complex.{Complex}
+use Rattle.css_selector_text.specs.declared.components.Condition.{Condition as ConditionOf, Not, Is, Where, Tested}
+use Rattle.css_selector_text.specs.declared.components.ListTest.{ListTest}
+use Rattle.css_selector_text.specs.Components.{Condition, Part, conditions_from, parts_from, selectors_from}
+use Rattle.css_selector_text.specs.Components.Condition.{negation, any_of, where_any, tested}
+use Rattle.css_selector_text.specs.Components.Conditions.{with_condition}
+use Rattle.css_selector_text.specs.Components.Parts.{with_part}
+use Rattle.css_selector_text.specs.Components.Selectors.{with_selector}
+use Rattle.css_selector_text.specs.Views.{complex_of, condition_of, list_test_of}
+use Rattle.css_selector_text.proofs.ConditionViews.{condition_not, condition_is, condition_where, condition_tested}
 use Rattle.css_tree.specs.Html.{condition_in, compound_in, complex_in, selectors_in, part_in}
 use Rattle.css_tree.specs.declared.html.HtmlMode.{HtmlMode}
 

@@ -9,8 +9,8 @@ use Rattle.std.proofs.lemmas.Bool.Decides.{Decides-eqb, nat_tests}
 use Rattle.std.proofs.lemmas.List.{get_or-set_same, get_or-set_other, length-set}
 use Rattle.std.proofs.lemmas.Option.{get_or_from_slice_get, slice_get-get_or}
 use Rattle.css_matching.specs.ListTrees.{lesser_before}
-use Rattle.simplecss_tree.specs.Rows.{Row}
-use Rattle.simplecss_tree.specs.TreeNodes.{named_parent}
+use Rattle.css_elements.specs.Rows.{Row}
+use Rattle.css_elements.specs.TreeNodes.{named_parent}
 use Rattle.css_tree.specs.Counts.{any_below}
 use Rattle.css_tree.specs.HtmlElements.{has_attribute, is_named, is_radio, is_submit}
 use Rattle.css_tree.specs.HtmlStates.{form_of, group_name, is_checked, is_checked_in, is_in_html_state, is_in_state_named, is_submit_of, state_named}

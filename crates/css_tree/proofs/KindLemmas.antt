@@ -13,8 +13,8 @@ use Rattle.std.specs.declared.cmp.Ordering.TheVariants.{Less, Equal, Greater}
 use Rattle.std.proofs.lemmas.Bool.Decides.{Decides-eqb, Decides-and, same_from_decides}
 use Rattle.std.proofs.lemmas.Map.Text.{is_eq-slice_cmp}
 use Rattle.std.proofs.lemmas.Slice.Eq.{bytes_eq-Decides}
-use Rattle.simplecss_tree.specs.Rows.{Row}
-use Rattle.simplecss_tree.specs.TreeNodes.{name_at}
+use Rattle.css_elements.specs.Rows.{Row}
+use Rattle.css_elements.specs.TreeNodes.{name_at}
 use Rattle.css_tree.specs.Counts.{count_below, last_below, first_below}
 use Rattle.css_tree.specs.GroupViews.{is_in_group}
 use Rattle.css_tree.specs.Keys.{KindKey, kind, kind_cmp, has_kind, IsLarge, AreNamed}

@@ -13,8 +13,8 @@ use Rattle.std.proofs.lemmas.List.Splits.{slice_split_first, slice_split_none, l
 use Rattle.std.proofs.lemmas.List.Sums.{fails_before_first}
 use Rattle.std.proofs.lemmas.Slice.Eq.{bytes_eq-Decides}
 use Rattle.std.proofs.lemmas.Str.Pattern.{IsSplitOnceResult, split_once_first}
-use Rattle.simplecss.specs.AsciiBytes.{hyphen}
-use Rattle.simplecss_tree.specs.TreeNodes.{ends_subtag, is_in_language as has_prefix}
+use Rattle.css_text.specs.AsciiBytes.{hyphen}
+use Rattle.css_elements.specs.TreeNodes.{ends_subtag, is_in_language as has_prefix}
 use Rattle.css_tree.specs.Languages.{subtags, is_wildcard, is_singleton, after_subtag, are_found, is_matched, is_in_range, Occur, Matches, IsInRange}
 use Rattle.css_tree.specs.Languages.Occur.{all_occur, occurs, without_wildcard, without_subtag}
 use Rattle.css_tree.specs.Languages.Matches.{matches}

@@ -4,10 +4,10 @@ use Rattle.std.proofs.Common.{◌≡◌, ℕ, ◌+◌, List, [], ◌∷◌, ◌+
 use Rattle.std.specs.Prelude.{codes}
 use Rattle.std.specs.Option.{option_map, option_or, unwrap_or}
 use Rattle.std.proofs.lemmas.List.{length-append}
-use Rattle.simplecss.specs.ListTrees.{with_those_after, ancestors, ancestors_step}
-use Rattle.simplecss_tree.specs.Rows.{Row}
-use Rattle.simplecss_tree.specs.TreeNodes.{named_parent, attribute_at, first_value}
-use Rattle.simplecss_tree.proofs.Languages.{language_at-parent}
+use Rattle.css_matching.specs.ListTrees.{with_those_after, ancestors, ancestors_step}
+use Rattle.css_elements.specs.Rows.{Row}
+use Rattle.css_elements.specs.TreeNodes.{named_parent, attribute_at, first_value}
+use Rattle.css_elements.proofs.Languages.{language_at-parent}
 use Rattle.css_tree.specs.Keys.{AreLanguages}
 use Rattle.css_tree.specs.Pages.{language_of, parent_index}
 use Rattle.css_tree.proofs.Numbering.{known_more}

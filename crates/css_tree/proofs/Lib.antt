@@ -4,6 +4,10 @@ mod ChainLemmas
 mod Counting
 mod Grouping
 mod MarkLemmas
+mod MeaningPlaces
+mod MeaningSelectors
+pub mod MeaningSheets
+mod MeaningShrinks
 mod Numbering
 mod SurroundingLemmas
 mod Reporting

@@ -10,8 +10,8 @@ use Rattle.std.specs.Option.{option_map_or}
 use Rattle.std.specs.Prelude.{◌==◌, nat_lt, if◌then◌else◌}
 use Rattle.std.proofs.lemmas.Bool.Decides.{nat_tests}
 use Rattle.css_matching.specs.ListTrees.{lesser}
-use Rattle.simplecss_tree.specs.Rows.{Row}
-use Rattle.simplecss_tree.specs.TreeNodes.{named_parent}
+use Rattle.css_elements.specs.Rows.{Row}
+use Rattle.css_elements.specs.TreeNodes.{named_parent}
 use Rattle.css_tree.specs.Counts.{count_below, last_below}
 use Rattle.css_tree.specs.GroupViews.{is_in_group, seen_below, count_after as count_after_number}
 use Rattle.css_tree.specs.declared.groups.Seen.{Seen}

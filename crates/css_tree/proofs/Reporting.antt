@@ -2,7 +2,7 @@
 -- Serves `NumberedNode`.
 use Rattle.std.proofs.Common.{◌≡◌, ℕ, ◌<◌, List, length, map, get_or, Bor, sym, ap, ◌∙◌, arith}
 use Rattle.std.proofs.lemmas.List.{length-map, get_or-map}
-use Rattle.simplecss_tree.specs.Rows.{attribute_of}
+use Rattle.css_elements.specs.Rows.{attribute_of}
 
 -- the name of the attribute at an index, as it is read
 pub name_read : (attributes : List (Bor (List ℕ) × Bor (List ℕ))) (rows : List (List ℕ × List ℕ))

@@ -12,8 +12,8 @@ use Rattle.css_matching.specs.declared.Combinator.TheVariants.{Descendant, Child
 use Rattle.css_matching.specs.ListTrees.{spot, lesser_before}
 use Rattle.css_matching.specs.Placements.{IsBeyond, is_next, is_further, Relates}
 use Rattle.css_selectors.specs.Documents.{shape}
-use Rattle.simplecss_tree.specs.Rows.{Row}
-use Rattle.simplecss_tree.specs.TreeNodes.{named_parent}
+use Rattle.css_elements.specs.Rows.{Row}
+use Rattle.css_elements.specs.TreeNodes.{named_parent}
 use Rattle.css_tree.specs.Counts.{last_below}
 use Rattle.css_tree.specs.Pages.{Page, page_document, is_sibling}
 use Rattle.css_tree.specs.Steps.{step, is_repeated, is_set, Precedes}

@@ -7,8 +7,8 @@ use Rattle.std.specs.Option.{option_eq}
 use Rattle.std.proofs.lemmas.Bool.Decides.{Decides-eqb, nat_tests, same_from_decides}
 use Rattle.std.proofs.lemmas.List.{length-append}
 use Rattle.css_matching.specs.ListTrees.{ancestors, ancestors_step, with_those_after}
-use Rattle.simplecss_tree.specs.Rows.{Row}
-use Rattle.simplecss_tree.specs.TreeNodes.{named_parent}
+use Rattle.css_elements.specs.Rows.{Row}
+use Rattle.css_elements.specs.TreeNodes.{named_parent}
 use Rattle.css_tree.specs.Counts.{any_below, last_below}
 use Rattle.css_tree.specs.HtmlElements.{is_named}
 use Rattle.css_tree.specs.Pages.{family, family_under, is_sibling, parent_index}

@@ -9,10 +9,10 @@ use Rattle.std.proofs.lemmas.Bool.Decides.{Decides-eqb, not_from_Decides}
 use Rattle.std.proofs.lemmas.Grind.{get_or-set_at}
 use Rattle.std.proofs.lemmas.List.{get_or-set_other, length-set}
 use Rattle.css_matching.specs.ListTrees.{spot}
-use Rattle.css_selectors.specs.Components.{Progression, Selectors}
+use Rattle.css_selector_text.specs.Components.{Progression, Selectors}
 use Rattle.css_selectors.specs.Meanings.{MatchesAny}
-use Rattle.css_selectors.specs.Numbers.{is_numbered}
-use Rattle.simplecss_tree.specs.Rows.{Row}
+use Rattle.css_selector_text.specs.reading.Numbers.{is_numbered}
+use Rattle.css_elements.specs.Rows.{Row}
 use Rattle.css_tree.specs.Counts.{last_below}
 use Rattle.css_tree.specs.declared.nth_marks.End.{End}
 use Rattle.css_tree.specs.declared.nth_marks.End.TheVariants.{First, Last}

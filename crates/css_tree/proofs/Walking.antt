@@ -5,7 +5,7 @@ use Rattle.std.specs.Option.{option_map}
 use Rattle.css_matching.specs.ListTrees.{spot}
 use Rattle.css_open_elements.specs.Opened.{all_but_last}
 use Rattle.css_index.specs.Walks.{Walk, AreOpened, IsOpenTo}
-use Rattle.simplecss_tree.proofs.Walking.{inside}
+use Rattle.css_elements.proofs.Walking.{inside}
 use Rattle.css_tree.specs.Pages.{Page, page_document, parent_index}
 use Rattle.css_tree.specs.Reports.{reported_of}
 use Rattle.css_tree.specs.Walks.{IsOpenAt}

@@ -5,8 +5,8 @@ use Rattle.std.specs.BTreeMap.{BTreeMap, get, get_by}
 use Rattle.std.specs.Cmp.Lexicographic.{slice_cmp}
 use Rattle.std.specs.Option.{option_map}
 use Rattle.std.specs.Ordering.{nat_cmp}
-use Rattle.simplecss_tree.specs.Rows.{Row}
-use Rattle.simplecss_tree.specs.TreeNodes.{value_in, attributes_at}
+use Rattle.css_elements.specs.Rows.{Row}
+use Rattle.css_elements.specs.TreeNodes.{value_in, attributes_at}
 
 -- the values of attributes by their names
 abbrev pub Values : Type 0

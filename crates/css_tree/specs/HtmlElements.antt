@@ -5,9 +5,9 @@ use Rattle.std.specs.Char.{is_ascii_lowercase, is_ascii_whitespace}
 use Rattle.std.specs.List.{list_any}
 use Rattle.std.specs.Option.{option_map_or, unwrap_or}
 use Rattle.std.specs.Str.{str_eq_ignore_ascii_case}
-use Rattle.simplecss.specs.AsciiBytes.{hyphen}
-use Rattle.simplecss_tree.specs.Rows.{Row}
-use Rattle.simplecss_tree.specs.TreeNodes.{name_at, attribute_at}
+use Rattle.css_text.specs.AsciiBytes.{hyphen}
+use Rattle.css_elements.specs.Rows.{Row}
+use Rattle.css_elements.specs.TreeNodes.{name_at, attribute_at}
 use Rattle.css_tree.specs.Html.{is_among}
 use Rattle.css_tree.specs.declared.html_elements.InputType.{InputType}
 use Rattle.css_tree.specs.declared.html_elements.InputType.TheVariants.{Text, Url, Number, Date, Checkbox, Radio, File, Submit, Other}

@@ -3,8 +3,8 @@
 use Rattle.std.specs.Prelude.{ℕ, Bool, true, false, not, ◌||◌, ◌&&◌, ◌==◌, List, [], length, Option, None, Some, bytes_eq, codes, nat_lt, if◌then◌else◌}
 use Rattle.std.specs.Option.{option_map_or, unwrap_or}
 use Rattle.std.specs.Str.{str_eq_ignore_ascii_case}
-use Rattle.simplecss_tree.specs.Rows.{Row}
-use Rattle.simplecss_tree.specs.TreeNodes.{name_at, attribute_at}
+use Rattle.css_elements.specs.Rows.{Row}
+use Rattle.css_elements.specs.TreeNodes.{name_at, attribute_at}
 use Rattle.css_tree.specs.Counts.{any_below}
 use Rattle.css_tree.specs.HtmlElements.{is_named, has_attribute, input_type, may_be_checked, has_placeholders, may_be_read_only, may_be_required, is_emptied, is_input_of, is_choice_or_area, is_control, is_radio, is_submit, is_custom_name}
 use Rattle.css_tree.specs.Surroundings.{surroundings}

@@ -7,7 +7,7 @@ use Rattle.std.specs.Cmp.Lexicographic.{slice_cmp}
 use Rattle.std.specs.List.{slice_get}
 use Rattle.std.specs.Ordering.{nat_cmp, ordering_then}
 use Rattle.std.specs.declared.cmp.Ordering.{Ordering}
-use Rattle.simplecss_tree.specs.Rows.{Row}
+use Rattle.css_elements.specs.Rows.{Row}
 use Rattle.css_tree.specs.Counts.{any_below}
 use Rattle.css_tree.specs.HtmlStates.{is_checked, is_disabled, is_enabled, is_required, is_optional, is_read_write, is_input_with_placeholder, is_area_with_placeholder, is_default, is_indeterminate, is_open, is_defined, is_checked_in, is_submit_of, is_left_to_right, is_right_to_left, state_named}
 use Rattle.css_tree.specs.Surroundings.{surroundings}

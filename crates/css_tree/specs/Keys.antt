@@ -7,8 +7,8 @@ use Rattle.std.specs.List.{slice_get}
 use Rattle.std.specs.Option.{unwrap_or}
 use Rattle.std.specs.Ordering.{nat_cmp, ordering_then}
 use Rattle.std.specs.declared.cmp.Ordering.{Ordering}
-use Rattle.simplecss_tree.specs.Rows.{Row}
-use Rattle.simplecss_tree.specs.TreeNodes.{name_at}
+use Rattle.css_elements.specs.Rows.{Row}
+use Rattle.css_elements.specs.TreeNodes.{name_at}
 use Rattle.css_tree.specs.Counts.{count_below, first_below}
 use Rattle.css_tree.specs.GroupViews.{is_in_group}
 use Rattle.css_tree.specs.Pages.{family, is_alike, language_of, namespace_at}

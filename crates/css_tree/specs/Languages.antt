@@ -5,7 +5,7 @@ use Rattle.std.specs.Char.{is_ascii_alphanumeric}
 use Rattle.std.specs.List.{slice_split}
 use Rattle.std.specs.Option.{option_map_or}
 use Rattle.std.specs.Str.{str_eq_ignore_ascii_case}
-use Rattle.simplecss.specs.AsciiBytes.{hyphen}
+use Rattle.css_text.specs.AsciiBytes.{hyphen}
 
 -- the subtags of a tag or of a range, which hyphens separate
 abbrev pub subtags : List ℕ → List (List ℕ)

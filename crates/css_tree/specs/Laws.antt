@@ -7,7 +7,7 @@ use Rattle.std.proofs.lemmas.Bool.Decides.{nat_tests}
 use Rattle.css_matching.specs.Trees.{Counts, SiblingsShareParent}
 use Rattle.css_matching.specs.ListTrees.{ListOf, list_counts_ancestors, spot}
 use Rattle.css_selectors.specs.Documents.{shape}
-use Rattle.simplecss_tree.specs.TreeNodes.{named_parent}
+use Rattle.css_elements.specs.TreeNodes.{named_parent}
 use Rattle.css_tree.specs.Counts.{count_below, last_below}
 use Rattle.css_tree.specs.Pages.{Page, parent_index, family, family_under, is_sibling, page_document}
 

@@ -11,8 +11,11 @@ pub mod HasSelectors
 pub mod Languages
 pub mod Laws
 pub mod Marks
+pub mod Means
 pub mod Messages
 pub mod NextSiblings
+pub mod PageMeanings
+pub mod PageNodes
 pub mod PageViews
 pub mod Pages
 pub mod Reports
@@ -20,5 +23,6 @@ pub mod SiblingCounts
 pub mod SpelledLists
 pub mod Steps
 pub mod Surroundings
+pub mod TreeNumbers
 pub mod Visits
 pub mod Walks

@@ -7,8 +7,8 @@ use Rattle.std.specs.Str.{str_eq_ignore_ascii_case, str_to_ascii_lowercase}
 use Rattle.std.proofs.lemmas.Slice.Eq.{bytes_eq-Decides}
 use Rattle.css_selectors.specs.Keys.Key.{by_id, by_class, by_name, by_attribute, by_nothing}
 use Rattle.css_index.specs.Reported.{Reported, ReportsKeys}
-use Rattle.simplecss_tree.specs.Rows.{Row}
-use Rattle.simplecss_tree.specs.TreeNodes.{name_at, attributes_at, value_in}
+use Rattle.css_elements.specs.Rows.{Row}
+use Rattle.css_elements.specs.TreeNodes.{name_at, attributes_at, value_in}
 use Rattle.css_tree.specs.Pages.{Page, page_document}
 
 -- the name of the element at an index, and the names of its attributes

@@ -1,11 +1,11 @@
 -- The lists of nested rules, spelled out: in place of each `&` is `:is()` of the list for which it
 -- stands, from the outermost rule inwards.
 use Rattle.std.specs.Prelude.{ℕ, zero, suc, List, [], ◌∷◌, ◌++◌, map, slice_index_or}
-use Rattle.css_selectors.specs.declared.components.Nesting.{Nesting}
-use Rattle.css_selectors.specs.Components.{Condition, Selectors, Selector, selectors_from}
-use Rattle.css_selectors.specs.Components.Simple.{nesting}
-use Rattle.css_selectors.specs.Components.Condition.{simple, any_of}
-use Rattle.css_selectors.specs.Components.Selectors.{end_of_list}
+use Rattle.css_selector_text.specs.declared.components.Nesting.{Nesting}
+use Rattle.css_selector_text.specs.Components.{Condition, Selectors, Selector, selectors_from}
+use Rattle.css_selector_text.specs.Components.Simple.{nesting}
+use Rattle.css_selector_text.specs.Components.Condition.{simple, any_of}
+use Rattle.css_selector_text.specs.Components.Selectors.{end_of_list}
 use Rattle.css_selectors.specs.SpelledOut.{spelled_by}
 
 -- An `&` by its number: `:is()` of the list of that number, of which the first is 1. An `&` of

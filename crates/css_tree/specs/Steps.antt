@@ -4,11 +4,11 @@ use Rattle.css_matching.specs.declared.Combinator.{Combinator}
 use Rattle.css_matching.specs.declared.Combinator.TheVariants.{Descendant, Child, Adjacent, Sibling}
 use Rattle.css_matching.specs.ListTrees.{spot}
 use Rattle.css_matching.specs.Placements.{Relates}
-use Rattle.css_selectors.specs.Components.{Parts}
-use Rattle.css_selectors.specs.Components.Parts.{end_of_selector, with_part}
+use Rattle.css_selector_text.specs.Components.{Parts}
+use Rattle.css_selector_text.specs.Components.Parts.{end_of_selector, with_part}
 use Rattle.css_selectors.specs.Documents.{shape}
 use Rattle.css_selectors.specs.Meanings.{AreMet}
-use Rattle.simplecss_tree.specs.Rows.{Row}
+use Rattle.css_elements.specs.Rows.{Row}
 use Rattle.css_tree.specs.Counts.{last_below}
 use Rattle.css_tree.specs.Pages.{Page, page_document, parent_index, is_sibling}
 

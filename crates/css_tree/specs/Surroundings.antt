@@ -3,8 +3,8 @@ use Rattle.std.specs.Prelude.{ℕ, suc, Bool, true, false, not, ◌||◌, ◌&&�
 use Rattle.std.specs.Option.{option_and_then, option_eq, option_or, unwrap_or}
 use Rattle.std.specs.Str.{str_eq_ignore_ascii_case}
 use Rattle.css_matching.specs.ListTrees.{ancestors, parent_by}
-use Rattle.simplecss_tree.specs.Rows.{Row}
-use Rattle.simplecss_tree.specs.TreeNodes.{named_parent, attribute_at}
+use Rattle.css_elements.specs.Rows.{Row}
+use Rattle.css_elements.specs.TreeNodes.{named_parent, attribute_at}
 use Rattle.css_tree.specs.Counts.{any_below}
 use Rattle.css_tree.specs.HtmlElements.{is_named, has_attribute, is_telephone}
 use Rattle.css_tree.specs.declared.surroundings.Direction.{Direction}

@@ -1,9 +1,9 @@
 -- Elements in order, from the first or from the last on, and numbers of those among them that are
 -- marked.
 use Rattle.std.specs.Prelude.{◌≡◌, ℕ, suc, ◌+◌, ◌-◌, ◌&&◌, ◌==◌, Bool, List, length, slice_index_or}
-use Rattle.css_selectors.specs.Components.{Progression}
-use Rattle.css_selectors.specs.Numbers.{is_numbered}
-use Rattle.simplecss_tree.specs.Rows.{Row}
+use Rattle.css_selector_text.specs.Components.{Progression}
+use Rattle.css_selector_text.specs.reading.Numbers.{is_numbered}
+use Rattle.css_elements.specs.Rows.{Row}
 use Rattle.css_tree.specs.Counts.{count_below}
 use Rattle.css_tree.specs.Pages.{family}
 use Rattle.css_tree.specs.declared.nth_marks.End.{End}

@@ -1,11 +1,11 @@
 //! The attributes of elements that have many, by their names.
 ghost use Rattle.std.specs.Prelude.{◌≡◌, ◌<◌, List, ℕ, length, map, IfOk};
 ghost use Rattle.std.specs.Option.{option_map};
-ghost use Rattle.simplecss_tree.specs.Rows.{attribute_of};
-ghost use Rattle.simplecss_tree.specs.TreeNodes.{attribute_at};
+ghost use Rattle.css_elements.specs.Rows.{attribute_of};
+ghost use Rattle.css_elements.specs.TreeNodes.{attribute_at};
 ghost use Rattle.css_tree.specs.Attributes.{AreNamed, AreFound};
 
-use simplecss_tree::{Node, Tree};
+use css_elements::{Node, Tree};
 use std::alloc::{AllocError, Global};
 use std::collections::BTreeMap;
 
@@ -36,7 +36,7 @@ pub(crate) fn many_attributes<'t>(
 {
     let mut found = BTreeMap::new(alloc);
     for index in 0..tree.len() {
-        let attributes = tree.node(index).unwrap().attributes();
+        let attributes = tree.attributes(index);
         if attributes.len() > COMPARED {
             let values = named_values(alloc, attributes)?;
             found.insert(index, values)?;

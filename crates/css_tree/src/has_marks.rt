@@ -1,9 +1,9 @@
 //! Which elements `:has()` holds of, found for all elements of a tree at once.
 ghost use Rattle.std.specs.Prelude.{◌≡◌, ◌<◌, ◌↔◌, ◌||◌, ◌&&◌, ℕ, IfOk, IfSome, IsTrue, length, map};
 ghost use Rattle.css_matching.specs.ListTrees.{spot};
-ghost use Rattle.css_selectors.specs.Components.{conditions_from, parts_from, selectors_from};
+ghost use Rattle.css_selector_text.specs.Components.{conditions_from, parts_from, selectors_from};
 ghost use Rattle.css_selectors.specs.Meanings.{AreMet};
-ghost use Rattle.css_selectors.specs.Views.{part_of, complex_of};
+ghost use Rattle.css_selector_text.specs.Views.{part_of, complex_of};
 ghost use Rattle.css_tree.specs.HasSelectors.{HasAny};
 ghost use Rattle.css_tree.specs.Pages.{page_document};
 ghost use Rattle.css_tree.specs.Steps.{step as step_back, is_repeated as is_repeated_by, is_set, Precedes, Leads};

@@ -1,7 +1,7 @@
 //! What the names and the attributes of elements of an HTML document say of them.
 ghost use Rattle.std.specs.Prelude.{◌≡◌, ◌==◌};
 ghost use Rattle.std.specs.List.{list_any};
-ghost use Rattle.simplecss.specs.AsciiBytes.{hyphen};
+ghost use Rattle.css_text.specs.AsciiBytes.{hyphen};
 ghost use Rattle.css_tree.specs.Html.{is_among};
 ghost use Rattle.css_tree.specs.HtmlElements.{is_named as has_name, has_attribute as has};
 ghost use Rattle.css_tree.specs.HtmlElements.{names_url as is_url, names_date as is_date};
@@ -17,7 +17,7 @@ ghost use Rattle.css_tree.specs.HtmlElements.{is_radio_type, is_submit_type, is_
 ghost use Rattle.css_tree.specs.HtmlElements.{reserved_names, begins_with_letter as has_first_letter};
 ghost use Rattle.css_tree.specs.HtmlElements.{is_custom_name as is_custom};
 
-use simplecss_tree::Node;
+use css_elements::Node;
 
 /// The types of input elements, by which attributes apply to them.
 #[derive(Clone, Copy, Debug, PartialEq)]

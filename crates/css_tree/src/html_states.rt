@@ -1,7 +1,7 @@
 //! The states of the elements of an HTML document, as attributes decide them (HTML Standard,
 //! "Pseudo-classes").
 ghost use Rattle.std.specs.Prelude.{◌≡◌, ◌<◌, ◌+◌, ◌&&◌, List, [], false, true, not, nat_lt, IfOk, OnOk, OnErr, length, slice_index_or};
-ghost use Rattle.simplecss_tree.specs.Rows.{Row};
+ghost use Rattle.css_elements.specs.Rows.{Row};
 ghost use Rattle.css_tree.specs.Counts.{any_below};
 ghost use Rattle.css_tree.specs.HtmlStates.{is_checked as is_checked_at, is_disabled as is_disabled_at};
 ghost use Rattle.css_tree.specs.HtmlStates.{may_be_disabled as may_be_disabled_at, is_mutable as is_mutable_at};
@@ -24,7 +24,7 @@ use crate::html_elements::{
 };
 use crate::numbered_tree::no_marks;
 use crate::surroundings::{Direction, Surroundings, all_surroundings};
-use simplecss_tree::Node;
+use css_elements::Node;
 use std::alloc::{AllocError, Global};
 use std::collections::BTreeMap;
 

@@ -1,12 +1,12 @@
 //! Kinds of elements: those with one parent and one type, which is a namespace and a name.
 ghost use Rattle.std.specs.Prelude.{◌≡◌, ◌<◌, ◌+◌, length, IfOk};
-ghost use Rattle.simplecss_tree.specs.TreeNodes.{name_at};
+ghost use Rattle.css_elements.specs.TreeNodes.{name_at};
 ghost use Rattle.css_tree.specs.Keys.{AreFamilies, AreKinds, HasKinds};
 ghost use Rattle.css_tree.specs.Keys.{AreNamed, kind};
 ghost use Rattle.css_tree.specs.Pages.{namespace_at, have_one_type as are_of_one_type};
 
 use crate::groups::Groups;
-use simplecss_tree::Tree;
+use css_elements::Tree;
 use std::alloc::{AllocError, Global};
 use std::collections::BTreeMap;
 
@@ -18,7 +18,7 @@ fn name_of<'t>(tree: &Tree<'t>, index: usize) -> &'t str
     requires { index < length tree.now }
     ensures { result.now ≡ name_at tree.now index }
 {
-    tree.node(index).unwrap().name()
+    tree.name(index)
 }
 
 /// Returns the number of the namespace of an element, which is 0 after the last of `namespaces`.

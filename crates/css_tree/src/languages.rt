@@ -1,6 +1,6 @@
 //! Language ranges, as `:lang()` tests them (Selectors 4, section 8.2).
 ghost use Rattle.std.specs.Prelude.{◌≡◌, ◌≢◌, ◌↔◌, [], IsTrue};
-ghost use Rattle.simplecss_tree.specs.TreeNodes.{is_in_language as has_prefix};
+ghost use Rattle.css_elements.specs.TreeNodes.{is_in_language as has_prefix};
 ghost use Rattle.css_tree.specs.Languages.{is_in_range as is_in_range_of};
 ghost use Rattle.css_tree.specs.Languages.{IsInRange, is_singleton as is_singleton_of};
 ghost use Rattle.css_tree.specs.Languages.{are_found as are_found_in, is_matched as is_matched_by};

@@ -4,13 +4,15 @@ ghost use Rattle.std.specs.List.{Any};
 ghost use Rattle.css_selectors.specs.MarkedLists.{list_of};
 ghost use Rattle.css_selectors.specs.Meanings.{Matches};
 ghost use Rattle.css_tree.specs.Pages.{page_document};
-ghost use Rattle.css_tree.specs.Marks.{AreMarked, IsMarkedBy, MatchesOne};
+ghost use Rattle.css_tree.specs.Marks.{AreMarked, IsMarkedBy, IsMarkedInside, MatchesOne, is_of_has as is_of_has_list, with_marks};
 ghost use Rattle.css_tree.specs.declared.marking.MarkingError.TheVariants.{TooManyAnswers};
 
 use crate::nth_marks::End;
+use crate::numbered_tree::no_marks;
 use crate::{NumberedNode, NumberedTree};
-use css_selectors::{ListTest, MarkedList, Selector};
+use css_selectors::{ListTest, MarkedList, Matching, Selector};
 use std::alloc::{AllocError, Global};
+use std::mem;
 
 /// Why lists have no numbers.
 #[derive(Clone, Copy, Debug, PartialEq)]
@@ -31,6 +33,13 @@ fn is_matched(list: &[Selector<'_>], node: &NumberedNode<'_, '_, '_>) -> bool
         }
     }
     false
+}
+
+/// Whether the list is that of `:has()`.
+fn is_of_has(list: &MarkedList<'_>) -> bool
+    ensures { result ≡ is_of_has_list (list_of list.now) }
+{
+    matches!(list, MarkedList::Tested(ListTest::Has, _))
 }
 
 /// Whether more than `most` answers are needed, one for each list and each element.
@@ -63,7 +72,7 @@ impl<'p, 't> NumberedTree<'p, 't> {
         ensures all { IfOk result (λ answers. length answers.items ≡ length self.now.rows) }
         ensures each { IfOk result (λ answers. (i : ℕ) → i < length self.now.rows
             → IsTrue (slice_index_or answers.items i false)
-            ↔ IsMarkedBy (list_of list.now) self.now i) }
+            ↔ IsMarkedBy (list_of list.now) self.now self.now i) }
     {
         match list {
             MarkedList::Matched(selectors) => self.matched(alloc, selectors.as_slice()),
@@ -77,6 +86,62 @@ impl<'p, 't> NumberedTree<'p, 't> {
         }
     }
 
+    /// Returns for each element whether it is one of those of the list on the page with these marks.
+    fn answers_by(
+        &mut self,
+        alloc: Global,
+        marks: &mut Vec<Vec<bool>>,
+        list: &MarkedList<'_>,
+    ) -> Result<Vec<bool>, AllocError>
+        ensures page { self.new ≡ self.old }
+        ensures marks { marks.new.items ≡ marks.old.items }
+        ensures all { IfOk result (λ answers. length answers.items ≡ length self.old.rows) }
+        ensures each { IfOk result (λ answers. (i : ℕ) → i < length self.old.rows
+            → let page = with_marks self.old (map (λ answers. answers.items) marks.old.items) in
+            IsTrue (slice_index_or answers.items i false)
+            ↔ IsMarkedBy (list_of list.now) page page i) }
+    {
+        mem::swap(&mut self.marks, marks);
+        let answers = self.answers(alloc, list);
+        mem::swap(&mut self.marks, marks);
+        answers
+    }
+
+    /// Returns for each element whether it is one of those of the list, and whether it is inside `:has()`,
+    /// where these are the marks. They differ from those of the page, or are known to be the same.
+    fn both_answers(
+        &mut self,
+        alloc: Global,
+        inside: &mut Vec<Vec<bool>>,
+        differ: bool,
+        list: &MarkedList<'_>,
+    ) -> Result<(Vec<bool>, Vec<bool>), AllocError>
+        requires { differ ≡ false → map (λ answers. answers.items) inside.old.items ≡ self.old.marks }
+        ensures page { self.new ≡ self.old }
+        ensures marks { inside.new.items ≡ inside.old.items }
+        ensures all { IfOk result (λ both. length both.0.items ≡ length self.old.rows) }
+        ensures each { IfOk result (λ both. (i : ℕ) → i < length self.old.rows
+            → IsTrue (slice_index_or both.0.items i false) ↔ IsMarkedBy (list_of list.now) self.old
+            (with_marks self.old (map (λ answers. answers.items) inside.old.items)) i) }
+        ensures all_inside { IfOk result (λ both. length both.1.items ≡ length self.old.rows) }
+        ensures each_inside { IfOk result (λ both. (i : ℕ) → i < length self.old.rows
+            → IsTrue (slice_index_or both.1.items i false) ↔ IsMarkedInside (list_of list.now)
+            (with_marks self.old (map (λ answers. answers.items) inside.old.items)) i) }
+        ensures alike { differ ≡ false → is_of_has_list (list_of list.now) ≡ false
+            → IfOk result (λ both. both.0.items ≡ both.1.items) }
+    {
+        let inner = self.answers_by(alloc, inside, list)?;
+        if is_of_has(list) {
+            return Ok((inner, no_marks(alloc, self.len())?));
+        }
+        let own = if differ {
+            self.answers(alloc, list)?
+        } else {
+            Vec::from_slice(alloc, &inner)?
+        };
+        Ok((own, inner))
+    }
+
     /// Gives a list with these answers the next number.
     fn push_answers(&mut self, answers: Vec<bool>) -> Result<(), AllocError>
         ensures rows { self.new.rows ≡ self.old.rows }
@@ -88,7 +153,7 @@ impl<'p, 't> NumberedTree<'p, 't> {
         Ok(())
     }
 
-    /// Answers lists, one after another, where no list has a number yet.
+    /// Answers lists, one after another, also inside `:has()`, where no list has a number yet.
     fn mark_each(&mut self, alloc: Global, lists: &[MarkedList<'_>]) -> Result<(), AllocError>
         requires { self.old.marks ≡ [] }
         ensures rows { self.new.rows ≡ self.old.rows }
@@ -96,17 +161,22 @@ impl<'p, 't> NumberedTree<'p, 't> {
         ensures html { self.new.is_html ≡ self.old.is_html }
         ensures marks { OnOk result (AreMarked (map list_of lists.now) self.new) }
     {
+        let mut inside = Vec::new(alloc);
+        let mut differ = false;
         for list in lists {
-            let answers = self.answers(alloc, list)?;
-            self.push_answers(answers)?;
+            let (own, inner) = self.both_answers(alloc, &mut inside, differ, list)?;
+            self.push_answers(own)?;
+            inside.push(inner)?;
+            differ = differ || is_of_has(list);
         }
         Ok(())
     }
 
     /// Numbers lists, from 1 on: each is answered for all elements at once, where a number in it, as that
     /// of an `&`, is of a list before it. For a list of `:has()`, `:nth-child()` or `:nth-last-child()` that
-    /// takes time that is linear in the elements for each part of the list. Lists that had numbers lose
-    /// them. The answers hold for the tree as it is: after [`set_text`](NumberedTree::set_text),
+    /// takes time that is linear in the elements for each part of the list. Inside `:has()` each `:has()` is
+    /// false that an `&` reaches, so from the first one on lists are answered twice. Lists that had numbers
+    /// lose them. The answers hold for the tree as it is: after [`set_text`](NumberedTree::set_text),
     /// [`set_scope`](NumberedTree::set_scope), [`set_states`](NumberedTree::set_states),
     /// [`set_namespaces`](NumberedTree::set_namespaces),
     /// [`set_namespaced_attributes`](NumberedTree::set_namespaced_attributes) and

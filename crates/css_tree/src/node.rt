@@ -1,14 +1,13 @@
 //! The elements of a tree whose siblings are counted.
 ghost use Rattle.std.specs.Prelude.{◌≡◌};
-ghost use Rattle.simplecss_tree.specs.TreeNodes.{states_at};
+ghost use Rattle.css_elements.specs.TreeNodes.{states_at};
 ghost use Rattle.css_tree.specs.Pages.{is_in_state};
 
 use crate::NumberedTree;
 use crate::languages::is_in_range;
+use css_elements::Node;
 use css_index::Keyed;
 use css_selectors::{Element, NamespacedAttribute};
-use simplecss::{Element as PortElement, PseudoClass};
-use simplecss_tree::Node;
 use std::marker::Model;
 
 /// An element of a tree whose siblings are counted.
@@ -62,7 +61,7 @@ impl<'n, 'p, 't> Element for NumberedNode<'n, 'p, 't> {
 
     fn parent(&self) -> Option<Self> {
         let tree = self.tree;
-        let index = self.tree.plain(self.index).parent_element()?.index();
+        let index = self.tree.parent(self.index)?;
         Some(NumberedNode { tree, index })
     }
 
@@ -151,18 +150,16 @@ fn is_in(node: &Node<'_, '_>, name: &str) -> bool
     ensures { result ≡ is_in_state (states_at node.now.0 node.now.1) name.now }
 {
     if name.eq_ignore_ascii_case("link") {
-        node.pseudo_class_matches(PseudoClass::Link)
+        node.states().link
     } else if name.eq_ignore_ascii_case("visited") {
-        node.pseudo_class_matches(PseudoClass::Visited)
+        node.states().visited
     } else if name.eq_ignore_ascii_case("hover") {
-        node.pseudo_class_matches(PseudoClass::Hover)
+        node.states().hover
     } else if name.eq_ignore_ascii_case("active") {
-        node.pseudo_class_matches(PseudoClass::Active)
+        node.states().active
     } else if name.eq_ignore_ascii_case("focus") {
-        node.pseudo_class_matches(PseudoClass::Focus)
+        node.states().focus
     } else {
-        name.eq_ignore_ascii_case("any-link")
-            && (node.pseudo_class_matches(PseudoClass::Link)
-                || node.pseudo_class_matches(PseudoClass::Visited))
+        name.eq_ignore_ascii_case("any-link") && (node.states().link || node.states().visited)
     }
 }

@@ -2,10 +2,10 @@
 //! once.
 ghost use Rattle.std.specs.Prelude.{◌≡◌, ◌<◌, ◌+◌, ◌^◌, ◌↔◌, ℕ, IfOk, IsTrue, length, map, slice_index_or, slice_set};
 ghost use Rattle.css_matching.specs.ListTrees.{spot};
-ghost use Rattle.css_selectors.specs.Components.{selectors_from};
+ghost use Rattle.css_selector_text.specs.Components.{selectors_from};
 ghost use Rattle.css_selectors.specs.Meanings.{MatchesAny};
-ghost use Rattle.css_selectors.specs.Numbers.{is_numbered};
-ghost use Rattle.css_selectors.specs.Views.{complex_of, progression_of};
+ghost use Rattle.css_selector_text.specs.reading.Numbers.{is_numbered};
+ghost use Rattle.css_selector_text.specs.Views.{complex_of, progression_of};
 ghost use Rattle.css_tree.specs.Marks.{IsNumberedMatch};
 ghost use Rattle.css_tree.specs.Pages.{family, page_document};
 ghost use Rattle.css_tree.specs.Steps.{is_set};

@@ -3,7 +3,7 @@ ghost use Rattle.std.specs.Prelude.{◌≡◌, ◌<◌, ◌≤◌, ◌^◌, ℕ,
 ghost use Rattle.std.specs.Prelude.{◌&&◌, ◌||◌, map, false, codes, IfOk, IfErr, IfSome, MatchOption, OnOk, OnErr, true, None, []};
 ghost use Rattle.std.specs.Option.{option_map};
 ghost use Rattle.css_matching.specs.ListTrees.{spot};
-ghost use Rattle.simplecss_tree.specs.TreeNodes.{attribute_at};
+ghost use Rattle.css_elements.specs.TreeNodes.{attribute_at};
 ghost use Rattle.css_tree.specs.Counts.{count_below, last_below};
 ghost use Rattle.css_tree.specs.Pages.{parent_index, family, is_sibling, is_alike, count_after};
 ghost use Rattle.css_tree.specs.Pages.{has_content, is_scope, is_marked, is_in_page_state, is_among, is_in_named, is_of_tree as is_of_tree_name, language_of};
@@ -16,19 +16,21 @@ ghost use Rattle.css_tree.specs.Keys.{AreFamilies, AreLanguages};
 ghost use Rattle.css_tree.specs.declared.numbered_tree.NumberingError.TheVariants.{TooManyElements};
 ghost use Rattle.css_tree.specs.declared.numbered_tree.NumberingError.TheVariants.{Memory};
 
+mod tree_numbers;
+
 use crate::NumberedNode;
 use crate::attributes::{many_attributes, value_of};
 use crate::groups::{Groups, Seen};
 use crate::html_states::HtmlStates;
 use crate::kinds::{kinds_of, namespace_of};
+use css_elements::{Node, Tree};
 use css_selectors::NamespacedAttribute;
-use simplecss::Element;
-use simplecss_tree::{Node, Tree};
 use std::alloc::{AllocError, AllocFailed, Global};
 use std::collections::BTreeMap;
 use std::io;
 use std::io::ErrorKind;
 use std::marker::Model;
+pub use tree_numbers::TreeNumbers;
 
 /// Why the siblings of a tree are not counted.
 #[derive(Clone, Copy, Debug, PartialEq)]
@@ -136,11 +138,11 @@ pub struct NumberedTree<'p, 't> {
     /// The index of the scoping root, if one was named.
     scope: Option<usize>,
     /// The states that were named.
-    states: Vec<NamedState<'p>>,
+    states: Vec<NamedState<'t>>,
     /// The number of the namespace of each element; those after the last one are in none.
     namespaces: Vec<usize>,
     /// The attributes of each element that are in namespaces; those after the last one have none.
-    namespaced_attributes: Vec<Vec<NamespacedAttribute<'p>>>,
+    namespaced_attributes: Vec<Vec<NamespacedAttribute<'t>>>,
     /// For each list of selectors that has a number, from 1 on: whether it matches each element.
     pub(crate) marks: Vec<Vec<bool>>,
     /// The states of each element that its attributes decide, if the tree is that of an HTML document.
@@ -185,7 +187,7 @@ fn parent_of(tree: &Tree<'_>, index: usize) -> Option<usize>
     ensures value { result ≡ parent_index tree.now index }
     ensures before { IfSome result (λ parent. parent < index) }
 {
-    Some(tree.node(index).unwrap().parent_element()?.index())
+    tree.parent(index)
 }
 
 /// Returns the number of the family of an element: 0 for those without a parent, or one more than
@@ -218,7 +220,7 @@ fn own_language<'t>(tree: &Tree<'t>, index: usize) -> Option<&'t str>
     requires { index < length tree.now }
     ensures { option_map (λ value. value.now) result ≡ attribute_at tree.now index (codes "lang") }
 {
-    tree.node(index).unwrap().attribute("lang")
+    tree.attribute(index, "lang")
 }
 
 /// Returns the language of an element, given those of the elements before it.
@@ -330,7 +332,7 @@ impl<'p, 't> NumberedTree<'p, 't> {
     /// Names states: an element is then in each of them that says so, beside those that it is in by the
     /// tree or by its attributes. Names of states that every tree has are ignored, such as `hover`. They replace
     /// states that were named before.
-    pub fn set_states(&mut self, states: Vec<NamedState<'p>>)
+    pub fn set_states(&mut self, states: Vec<NamedState<'t>>)
         ensures rows { self.new.rows ≡ self.old.rows }
         ensures given { self.new.given ≡ with_states self.old.given (map state_of states.entry.items) }
         ensures marks { self.new.marks ≡ self.old.marks }
@@ -365,7 +367,7 @@ impl<'p, 't> NumberedTree<'p, 't> {
     /// Says which attributes in namespaces each element has. Elements after the last of these have none, as
     /// all before this call. The attributes of the tree are in no namespace. These replace those that were set
     /// before.
-    pub fn set_namespaced_attributes(&mut self, attributes: Vec<Vec<NamespacedAttribute<'p>>>)
+    pub fn set_namespaced_attributes(&mut self, attributes: Vec<Vec<NamespacedAttribute<'t>>>)
         ensures rows { self.new.rows ≡ self.old.rows }
         ensures given { self.new.given
             ≡ with_attributes self.old.given (map attributes_of attributes.entry.items) }
@@ -396,7 +398,7 @@ impl<'p, 't> NumberedTree<'p, 't> {
         ensures { result ≡ spot self.now.rows index }
     {
         let tree = self.tree;
-        tree.node(index).unwrap()
+        tree.element(index).unwrap()
     }
 
     /// Returns the index of the parent of an element, if it has one.
@@ -490,7 +492,7 @@ impl<'p, 't> NumberedTree<'p, 't> {
         &self,
         index: usize,
         number: usize,
-    ) -> Option<NamespacedAttribute<'p>>
+    ) -> Option<NamespacedAttribute<'t>>
         ensures answer { option_map namespaced_attribute_of result
             ≡ slice_get (namespaced_attributes self.now index) number }
         ensures few { length (namespaced_attributes self.now index) < 2 ^ 64 }

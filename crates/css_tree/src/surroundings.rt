@@ -13,7 +13,7 @@ ghost use Rattle.css_tree.specs.Surroundings.{is_first_legend as is_first_legend
 
 use crate::NumberedTree;
 use crate::html_elements::{has_attribute, is_named, is_telephone};
-use simplecss_tree::Node;
+use css_elements::Node;
 use std::alloc::{AllocError, Global};
 
 /// The direction of an element.

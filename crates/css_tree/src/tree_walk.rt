@@ -7,12 +7,12 @@ ghost use Rattle.css_tree.specs.Pages.{Page, page_document, parent_index};
 ghost use Rattle.css_index.specs.Tested.{AreTried};
 ghost use Rattle.css_tree.specs.Reports.{reported_of};
 ghost use Rattle.css_tree.specs.Walks.{IsOpenAt};
-ghost use Rattle.simplecss_tree.specs.Ways.{LeadsTo, IsAbove};
+ghost use Rattle.css_elements.specs.Ways.{LeadsTo, IsAbove};
 
 use crate::NumberedTree;
+use css_elements::find_way;
 use css_index::{HasSelector, SelectorWalk};
 use css_selectors::Tests;
-use simplecss_tree::find_way;
 use std::alloc::{AllocError, Global};
 use std::marker::Model;
 
@@ -105,8 +105,8 @@ pub struct TreeWalk<'s, 'a> {
 
 impl<'s, 'a> Model for TreeWalk<'s, 'a> {
     ghost use Rattle.std.specs.Coded.{Coded, codes};
-    ghost use Rattle.css_selectors.specs.Codes.{condition_code};
-    ghost use Rattle.css_selectors.specs.Components.{Simple};
+    ghost use Rattle.css_selector_text.specs.Codes.{condition_code};
+    ghost use Rattle.css_selector_text.specs.Components.{Simple};
     ghost use Rattle.css_tree.specs.Walks.{PageWalk};
 
     ghost Value = { PageWalk };

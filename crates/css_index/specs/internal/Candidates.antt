@@ -2,7 +2,7 @@
 use Rattle.std.specs.Prelude.{◌≡◌, ◌⊎◌, ℕ, List, Some, IsTrue}
 use Rattle.std.specs.List.{slice_get}
 use Rattle.css_selectors.specs.AncestorKeys.{is_only_keys}
-use Rattle.css_selectors.specs.Components.{Selector}
+use Rattle.css_selector_text.specs.Components.{Selector}
 use Rattle.css_selectors.specs.Documents.{Document}
 use Rattle.css_selectors.specs.AfterKeys.{MatchesFoundBy, begins_with_key}
 

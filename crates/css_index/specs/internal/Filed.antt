@@ -2,9 +2,9 @@
 use Rattle.std.specs.Prelude.{◌≡◌, ℕ, ◌+◌, ◌-◌, ◌*◌, ◌/◌, ◌%◌, ◌^◌, ◌<◌, ◌↔◌, ◌==◌, Bool, true, false, List, [], ◌∷◌, ◌++◌, map, length, take, Option, None, Some, Contains, IsTrue, filter}
 use Rattle.std.specs.List.{slice_get, flat_map, list_any}
 use Rattle.std.specs.Global.{Vec}
-use Rattle.css_selectors.specs.AttributeTests.{is_satisfied}
-use Rattle.css_selectors.specs.Components.{Selector}
-use Rattle.css_selectors.specs.Components.Comparison.{has_word}
+use Rattle.css_selector_text.specs.AttributeTests.{is_satisfied}
+use Rattle.css_selector_text.specs.Components.{Selector}
+use Rattle.css_selector_text.specs.Components.Comparison.{has_word}
 use Rattle.css_selectors.specs.Documents.{Document}
 use Rattle.css_selectors.specs.Keys.{Key}
 use Rattle.css_selectors.specs.Keys.Key.{by_id}

@@ -1,6 +1,6 @@
 -- What a walk keeps.
 use Rattle.std.specs.Prelude.{◌≡◌, ℕ, List, [], length, map}
-use Rattle.css_selectors.specs.Components.{Selector}
+use Rattle.css_selector_text.specs.Components.{Selector}
 use Rattle.css_index.specs.Walks.{Numbered, Walk, AreNumbered, AreNeeds}
 use Rattle.css_index.specs.declared.above.Above.{Above}
 use Rattle.css_index.specs.declared.need.Need.{Need}

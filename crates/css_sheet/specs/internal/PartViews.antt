@@ -1,7 +1,7 @@
 -- What contracts see of a reader of the parts of a sheet.
 use Rattle.std.specs.Prelude.{◌≡◌, ℕ, ◌+◌, ◌<◌, Bool, List, [], ◌∷◌, map, length, Option, Some, None}
 use Rattle.css_syntax.specs.Views.{prelude_of}
-use Rattle.css_selectors.specs.NameViews.{names_of}
+use Rattle.css_selector_text.specs.NameViews.{names_of}
 use Rattle.css_sheet.specs.declared.parts.Nesting.{Nesting}
 use Rattle.css_sheet.specs.declared.parts.Nesting.TheVariants as nestings
 use Rattle.css_sheet.specs.declared.parts.OpenRule.{OpenRule}

@@ -1,9 +1,9 @@
 -- Declarations with the numbers of their properties, and the best of each property.
-use Rattle.std.specs.Prelude.{◌≡◌, ℕ, Bool, true, ◌==◌, List, [], ◌∷◌, ◌++◌, map, filter, Option, None, Some, if◌then◌else◌}
+use Rattle.std.specs.Prelude.{◌≡◌, ℕ, Bool, true, false, not, ◌==◌, List, [], ◌∷◌, ◌++◌, map, filter, Option, None, Some, if◌then◌else◌}
 use Rattle.std.specs.List.{All, slice_get}
 use Rattle.std.specs.Option.{is_some, option_map}
 use Rattle.std.specs.Global.{Vec}
-use Rattle.css_cascade.specs.Cascade.{Weighed, winner_from}
+use Rattle.css_cascade.specs.Cascade.{Weighed, beats, winner_from}
 use Rattle.css_cascade.specs.Rollbacks.{is_left}
 use Rattle.css_cascade.specs.WeightViews.{weighed}
 use Rattle.css_cascade.specs.declared.weights.Weight.{Weight}
@@ -11,6 +11,7 @@ use Rattle.css_sheet.specs.SheetOrder.{SheetRuleText}
 use Rattle.css_styles.specs.declared.contest.Numbered.{Numbered}
 use Rattle.css_styles.specs.Contenders.{Contender, in_rule, in_turn, rule_declarations}
 use Rattle.css_styles.specs.Properties.{number_in, property_key}
+use Rattle.css_styles.specs.Winners.{as_value}
 use Rattle.css_styles.specs.internal.Stepping.{contender_of}
 
 -- the properties with this one, which is new or not
@@ -75,3 +76,24 @@ is_kept_by (Some (Some best)) one = is_left one (weighed best)
 
 abbrev pub is_kept : List (Option Weight) → Numbered → Bool
 is_kept best n = is_kept_by (slice_get best n.property) (weight_of n)
+
+-- no other of its property beats a declaration, by what is noted of the property
+abbrev pub is_best_by : Option (Option Weight) → Weighed → Bool
+is_best_by None one = true
+is_best_by (Some None) one = true
+is_best_by (Some (Some best)) one = not (beats (weighed best) one)
+
+-- ---- what has nothing before it
+
+-- the one in the earliest origin and layer counts still where this one wins
+abbrev pub is_reached : Option Weighed → Weighed → Bool
+is_reached None winner = false
+is_reached (Some first) winner = is_left first winner
+
+-- a declaration, whose value does not roll back if nothing is before it
+abbrev pub settled_by : Option Weighed → Weighed → Weighed
+settled_by first one = if not (is_reached first one) then as_value one else one
+
+-- the name of a declaration, and the number of its property
+abbrev pub named_of : Numbered → List ℕ × ℕ
+named_of n = (n.contender.winner.declaration.name.now, n.property)

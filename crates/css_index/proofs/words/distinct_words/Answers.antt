@@ -1,8 +1,8 @@
 use Rattle.std.proofs.Common.{rules, ◌⊎◌, ◌↔◌, ◌∷◌, [], ℕ, false, List, Contains, IsTrue, map, sym, ap, ◌∙◌, subst}
 use Rattle.std.proofs.lemmas.List.{map-append}
 use Rattle.std.proofs.lemmas.List.Filters.{dedup_is}
-use Rattle.css_selectors.specs.AttributeTests.{is_satisfied}
-use Rattle.css_selectors.specs.Components.Comparison.{has_word}
+use Rattle.css_selector_text.specs.AttributeTests.{is_satisfied}
+use Rattle.css_selector_text.specs.Components.Comparison.{has_word}
 use Rattle.css_index.proofs.DistinctLemmas.{texts_once, texts_same}
 use Rattle.css_index.proofs.WordLemmas.{no_word_yet, word_more, word_all}
 use Rattle.css_index.proofs.words.distinct_words.Goals as goal

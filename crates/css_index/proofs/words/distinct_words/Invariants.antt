@@ -1,8 +1,8 @@
 use Rattle.std.proofs.Common.{◌⊎◌, ◌↔◌, ℕ, false, List, map, length, Contains, IsTrue}
 use denote.Text.{Utf8}
 use denote.Shadow.{shadow}
-use Rattle.css_selectors.specs.AttributeTests.{is_satisfied}
-use Rattle.css_selectors.specs.Components.Comparison.{has_word}
+use Rattle.css_selector_text.specs.AttributeTests.{is_satisfied}
+use Rattle.css_selector_text.specs.Components.Comparison.{has_word}
 use Rattle.css_index.proofs.words.distinct_words.Given as goal
 
 -- the words so far are those of the value that are not words of the rest

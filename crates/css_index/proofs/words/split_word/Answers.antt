@@ -1,7 +1,7 @@
 use Rattle.std.proofs.Common.{◌≡◌, ◌-◌, ◌∙◌, ap, arith, drop, take}
 use Rattle.css_text.specs.Bytes.{past}
 use Rattle.css_text.specs.Characters.{is_space}
-use Rattle.css_selectors.proofs.TextLemmas.{run_boundary}
+use Rattle.css_selector_text.proofs.TextLemmas.{run_boundary}
 use Rattle.css_index.proofs.WordLemmas.{is_unspaced, word_len, space_low, no_words, first_word}
 use Rattle.css_index.proofs.words.split_word.Goals as goal
 

@@ -3,7 +3,7 @@ use Rattle.css_text.proofs.reading.EachLemmas.{took}
 use Rattle.css_syntax.specs.Statements.{next_statement}
 use Rattle.css_syntax.specs.Views.{sheet_part_of, statement_of}
 use Rattle.css_syntax.proofs.ItemLemmas.{next_statement-takes, past_between-within}
-use Rattle.css_selectors.specs.Names.{no_names}
+use Rattle.css_selector_text.specs.Names.{no_names}
 use Rattle.css_sheet.specs.Imports.{rule_in_front, sheet_imports}
 use Rattle.css_sheet.specs.internal.FrontViews.{front_rule_of}
 use Rattle.css_sheet.proofs.FrontLemmas.{read-on, read-last, read-all}

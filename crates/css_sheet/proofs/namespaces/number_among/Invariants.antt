@@ -1,5 +1,5 @@
 use Rattle.std.proofs.Common.{◌≡◌, ◌+◌, ◌≤◌, length}
-use Rattle.css_selectors.specs.NameViews.{texts_of}
+use Rattle.css_selector_text.specs.NameViews.{texts_of}
 use Rattle.css_sheet.specs.Namespaces.{number_from}
 use Rattle.css_sheet.proofs.namespaces.number_among.Given as goal
 

@@ -1,6 +1,6 @@
 use Rattle.std.proofs.Common.{◌≡◌, ◌++◌, map}
 use Rattle.std.specs.Vec.Iter.{into_iter_items}
-use Rattle.css_selectors.specs.ReadViews.{placed_of}
+use Rattle.css_selector_text.specs.reading.ReadViews.{placed_of}
 use Rattle.css_sheet.specs.RuleSelectors.{selector_read}
 use Rattle.css_sheet.specs.RuleViews.{rule_selector_of}
 use Rattle.css_sheet.proofs.selectors.rule_selectors.Given as goal

@@ -1,5 +1,5 @@
 use Rattle.std.proofs.Common.{◌≡◌, ◌++◌, length, map}
-use Rattle.css_selectors.specs.NameViews.{names_of}
+use Rattle.css_selector_text.specs.NameViews.{names_of}
 use Rattle.css_sheet.specs.NamespaceViews.{names_declared}
 use Rattle.css_sheet.proofs.sheet_namespaces.names_in.Given as goal
 

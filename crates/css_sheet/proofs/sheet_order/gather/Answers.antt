@@ -1,7 +1,7 @@
 use Rattle.std.proofs.Common.{◌≡◌, List, ap, subst, length, map, arith, rules}
 use Rattle.std.proofs.lemmas.List.{nil_from_length}
 use Rattle.css_cascade.specs.Layers.{outermost_number}
-use Rattle.css_selectors.specs.NameViews.{names_of}
+use Rattle.css_selector_text.specs.NameViews.{names_of}
 use Rattle.css_sheet.specs.declared.sheet_rules.Sheet.{Sheet}
 use Rattle.css_sheet.specs.Namespaces.{sheet_names}
 use Rattle.css_sheet.specs.SheetLayers.{sheet_layers}

@@ -1,5 +1,5 @@
 use Rattle.std.proofs.Common.{◌≡◌, ◌+◌, ℕ, List, Bool, length, map}
-use Rattle.css_selectors.specs.NameViews.{names_of}
+use Rattle.css_selector_text.specs.NameViews.{names_of}
 use Rattle.css_sheet.specs.Namespaces.{sheet_names}
 use Rattle.css_sheet.specs.SheetRuleViews.{Answers, sheet_of}
 use Rattle.css_sheet.specs.internal.OpenViews.{known_in, AreFew}

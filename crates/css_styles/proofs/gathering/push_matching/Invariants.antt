@@ -1,6 +1,6 @@
 use Rattle.std.proofs.Common.{◌≡◌, ◌++◌, map, take}
 use Rattle.std.specs.List.{All, flat_map}
-use Rattle.css_styles.specs.internal.Stepping.{stated_at}
+use Rattle.css_styles.specs.Contenders.{stated_at}
 use Rattle.css_styles.specs.internal.Numbered.{IsNumbered, numbered_of}
 use Rattle.css_styles.proofs.gathering.push_matching.Given as goal
 

@@ -1,39 +1,27 @@
-use Rattle.std.proofs.Common.{◌≡◌, ◌++◌, ◌∙◌, length, sym, ap, append-nil, map, subst, rules}
-use Rattle.std.specs.List.{All}
-use Rattle.std.proofs.lemmas.List.Elements.{All-push}
+use Rattle.std.proofs.Common.{◌≡◌, ◌++◌, ◌∷◌, ◌∙◌, [], length, sym, ap, append-nil, filter, map, rules}
 use Rattle.css_syntax.specs.ListReaders.{items_to_come}
 use Rattle.css_syntax.specs.Views.{declaration_of}
-use Rattle.css_syntax.specs.declared.declarations.Declaration.{Declaration}
-use Rattle.css_styles.specs.Contenders.{declared_in, in_turn}
-use Rattle.css_styles.specs.Properties.{number_in, property_key}
-use Rattle.css_styles.specs.internal.Numbered.{IsNumbered, numbered_of}
+use Rattle.css_styles.specs.Contenders.{declared_in, in_turn, is_declared}
+use Rattle.css_styles.specs.internal.Numbered.{numbered_of}
 use Rattle.css_styles.specs.internal.Stepping.{in_own}
-use Rattle.css_styles.proofs.GatherLemmas.{come-count, more-after, numbered-push, own-empty, turn-step}
-use Rattle.css_styles.proofs.StatedLemmas.{first-declared, numbered-more}
+use Rattle.css_styles.proofs.GatherLemmas.{come-count, own-empty, turn-step}
+use Rattle.css_styles.proofs.StatedLemmas.{first-declared}
 use Rattle.css_styles.proofs.gathering.push_text.Goals as goal
 
 pub items-preserved-in-Declaration : goal.items-preserved-in-Declaration
 items-preserved-in-Declaration c =
-    let known = c.args.known.now in
-    let now = known ++ c.number_own.new.others in
+    let old = map numbered_of c.items.contenders.items in
     record {
       come =
           turn-step (in_own c.args.part) c.items.place (declaration_of c.in-Declaration.one)
           (declared_in (items_to_come c.items.declarations))
-          (declared_in (items_to_come c.next.new.self)) (map numbered_of c.items.contenders.items) _ _
+          (declared_in (items_to_come c.next.new.self)) old _ _
           (first-declared c.in-Some.part_of_text c.in-Declaration.one (items_to_come c.items.declarations)
           (items_to_come c.next.new.self) c.in-Some.ensures.steps.items c.in-Declaration.is)
           c.items.invariant.come
-          (numbered-push c.items.contenders.items _ _ _ c.in_ok-push.ensures.items
-          c.in_own.ensures.contender);
-      numbered =
-          subst (All (IsNumbered now)) (sym c.in_ok-push.ensures.items)
-          (All-push (IsNumbered now) c.items.contenders.items _
-          (numbered-more (known ++ c.items.others) now c.items.contenders.items
-          (more-after known c.items.others c.number_own.new.others c.in_ok-property.ensures.more)
-          c.items.invariant.numbered)
-          (ap (λ (d : Declaration). number_in now (property_key d.name.now))
-          c.in_own.ensures.declaration ∙ c.in_ok-property.ensures.number));
+          (c.in_ok-push_valid.ensures.contenders
+          ∙ ap (λ one. old ++ filter is_declared (one ∷ [])) c.in_own-contender.ensures.contender);
+      numbered = c.in_ok-push_valid.ensures.numbered;
       counted =
           come-count (items_to_come c.items.declarations) (items_to_come c.next.new.self) _
           c.items.place _ c.in-Some.ensures.steps.items c.items.invariant.counted;

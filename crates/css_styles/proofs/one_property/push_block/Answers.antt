@@ -1,8 +1,8 @@
-use Rattle.std.proofs.Common.{◌++◌, ◌∷◌, ◌∙◌, [], ap, map}
+use Rattle.std.proofs.Common.{◌++◌, ◌∷◌, ◌∙◌, [], ap, filter, map}
 use Rattle.css_syntax.specs.ListReaders.{items_to_come}
 use Rattle.css_syntax.specs.Views.{declaration_of}
 use Rattle.css_sheet.specs.SheetRuleViews.{sheet_rule_of}
-use Rattle.css_styles.specs.Contenders.{declared_in, in_rule, of_property}
+use Rattle.css_styles.specs.Contenders.{declared_in, in_rule, is_declared, of_property}
 use Rattle.css_styles.specs.internal.Stepping.{contender_of}
 use Rattle.css_styles.proofs.GatherLemmas.{come-count}
 use Rattle.css_styles.proofs.StatedLemmas.{first-declared}
@@ -22,7 +22,8 @@ items-preserved-in-Declaration c =
           (items_to_come c.next.new.self) c.in-Some.ensures.steps.items c.in-Declaration.is)
           c.items.invariant.come
           (c.in_ok-push_if_of.ensures
-          ∙ ap (λ one. had ++ of_property property (one ∷ [])) c.in_rule-contender.ensures.contender);
+          ∙ ap (λ one. had ++ of_property property (filter is_declared (one ∷ [])))
+          c.in_rule-contender.ensures.contender);
       counted =
           come-count (items_to_come c.items.declarations) (items_to_come c.next.new.self) _
           c.items.place _ c.in-Some.ensures.steps.items c.items.invariant.counted;

@@ -1,7 +1,7 @@
-use Rattle.std.proofs.Common.{◌++◌, ◌∷◌, ◌∙◌, [], ap, map}
+use Rattle.std.proofs.Common.{◌++◌, ◌∷◌, ◌∙◌, [], ap, filter, map}
 use Rattle.css_syntax.specs.ListReaders.{items_to_come}
 use Rattle.css_syntax.specs.Views.{declaration_of}
-use Rattle.css_styles.specs.Contenders.{declared_in, of_property}
+use Rattle.css_styles.specs.Contenders.{declared_in, is_declared, of_property}
 use Rattle.css_styles.specs.internal.Stepping.{in_own}
 use Rattle.css_styles.specs.internal.Stepping.{contender_of}
 use Rattle.css_styles.proofs.GatherLemmas.{come-count}
@@ -22,7 +22,8 @@ items-preserved-in-Declaration c =
           (items_to_come c.next.new.self) c.in-Some.ensures.steps.items c.in-Declaration.is)
           c.items.invariant.come
           (c.in_ok-push_if_of.ensures
-          ∙ ap (λ one. had ++ of_property property (one ∷ [])) c.in_own-contender.ensures.contender);
+          ∙ ap (λ one. had ++ of_property property (filter is_declared (one ∷ [])))
+          c.in_own-contender.ensures.contender);
       counted =
           come-count (items_to_come c.items.declarations) (items_to_come c.next.new.self) _
           c.items.place _ c.in-Some.ensures.steps.items c.items.invariant.counted;

@@ -1,5 +1,5 @@
 use Rattle.std.proofs.Common.{◌-◌, ℕ, List, [], length, drop, get_or, map, sym, subst, arith, Bor}
-use Rattle.simplecss_tree.specs.Rows.{attribute_of}
+use Rattle.css_elements.specs.Rows.{attribute_of}
 use Rattle.css_tree.specs.Attributes.{AreNamed}
 use Rattle.css_tree.proofs.AttributeLemmas.{named-more, drop-one}
 use Rattle.css_tree.proofs.attributes.named_values.Goals as goal

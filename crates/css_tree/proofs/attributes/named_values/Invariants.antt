@@ -1,5 +1,5 @@
 use Rattle.std.proofs.Common.{◌-◌, length, drop, map}
-use Rattle.simplecss_tree.specs.Rows.{attribute_of}
+use Rattle.css_elements.specs.Rows.{attribute_of}
 use Rattle.css_tree.specs.Attributes.{AreNamed}
 use Rattle.css_tree.proofs.attributes.named_values.Given as goal
 

@@ -1,7 +1,7 @@
 use Rattle.std.proofs.Common.{ap, ◌∙◌, sym, subst}
 use Rattle.std.specs.Prelude.{IfSome}
 use Rattle.std.specs.Option.{option_map}
-use Rattle.simplecss_tree.specs.TreeNodes.{attribute_at, attributes_at}
+use Rattle.css_elements.specs.TreeNodes.{attribute_at, attributes_at}
 use Rattle.css_tree.specs.Attributes.{AreNamed}
 use Rattle.css_tree.proofs.AttributeLemmas.{attribute-value}
 use Rattle.css_tree.proofs.attributes.value_of.Goals as goal

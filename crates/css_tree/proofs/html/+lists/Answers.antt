@@ -1,6 +1,6 @@
 use Rattle.std.proofs.Common.{map, ap, ◌∙◌, refl}
-use Rattle.css_selectors.specs.declared.components.Complex.{roll-Complex, out-roll-Complex}
-use Rattle.css_selectors.specs.Views.{complex_of, condition_of, part_of}
+use Rattle.css_selector_text.specs.declared.components.Complex.{roll-Complex, out-roll-Complex}
+use Rattle.css_selector_text.specs.Views.{complex_of, condition_of, part_of}
 use Rattle.css_tree.specs.Html.{condition_in, part_in}
 use Rattle.css_tree.proofs.HtmlLemmas.{read-more, read-all, read-not, read-is, read-where, read-tested}
 use Rattle.css_tree.proofs.html.+lists.Goals as goal

@@ -1,5 +1,5 @@
 use Rattle.std.proofs.Common.{◌≡◌, map, take}
-use Rattle.css_selectors.specs.Views.{complex_of, condition_of, part_of}
+use Rattle.css_selector_text.specs.Views.{complex_of, condition_of, part_of}
 use Rattle.css_tree.specs.Html.{condition_in, part_in}
 use Rattle.css_tree.proofs.html.+lists.Given as goal
 

@@ -1,8 +1,8 @@
 use Rattle.std.proofs.Common.{ap, sym, ◌∙◌}
-use Rattle.css_selectors.specs.declared.components.Condition.{Not}
+use Rattle.css_selector_text.specs.declared.components.Condition.{Not}
 use Rattle.css_selectors.specs.MarkedLists.{list_of}
 use Rattle.css_selectors.specs.MarkedLists.ListText.{tested}
-use Rattle.css_selectors.specs.Views.{list_test_of}
+use Rattle.css_selector_text.specs.Views.{list_test_of}
 use Rattle.css_tree.specs.Html.{list_in}
 use Rattle.css_tree.proofs.HtmlLemmas.{lists}
 use Rattle.css_tree.proofs.html.html_marked.Goals as goal

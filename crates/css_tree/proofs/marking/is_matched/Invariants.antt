@@ -1,6 +1,6 @@
 -- No selector so far matches.
 use Rattle.std.proofs.Common.{◌<◌, ℕ, get_or}
-use Rattle.css_selectors.specs.Components.{Selector}
+use Rattle.css_selector_text.specs.Components.{Selector}
 use Rattle.css_selectors.specs.Meanings.{Matches}
 use Rattle.css_tree.specs.Pages.{page_document}
 use Rattle.css_tree.proofs.marking.is_matched.Given as goal

@@ -1,5 +1,5 @@
 use Rattle.std.proofs.Common.{◌≡◌, ◌++◌, length, map}
-use Rattle.css_selectors.specs.NameViews.{prefix_of}
+use Rattle.css_selector_text.specs.NameViews.{prefix_of}
 use Rattle.css_sheet.specs.NamespaceViews.{own_prefix}
 use Rattle.css_sheet.proofs.namespaces.SheetNamespaces.declare.Given as goal
 

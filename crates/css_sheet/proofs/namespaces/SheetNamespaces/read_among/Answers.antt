@@ -4,8 +4,8 @@ use Rattle.css_syntax.specs.Placed.{placed_statements}
 use Rattle.css_syntax.specs.Statements.{next_statement}
 use Rattle.css_syntax.specs.Views.{sheet_part_of}
 use Rattle.css_syntax.proofs.ItemLemmas.{next_statement-takes}
-use Rattle.css_selectors.specs.Names.{Names}
-use Rattle.css_selectors.specs.NameViews.{texts_of}
+use Rattle.css_selector_text.specs.Names.{Names}
+use Rattle.css_selector_text.specs.NameViews.{texts_of}
 use Rattle.css_sheet.specs.Namespaces.{begun_after, names_from, names_among}
 use Rattle.css_sheet.specs.NamespaceViews.{names_owned}
 use Rattle.css_sheet.specs.internal.FrontViews.{front_rule_of}

@@ -2,7 +2,7 @@ use Rattle.std.proofs.Common.{◌≡◌, false, length}
 use denote.Shadow.{shadow}
 use denote.Text.{Utf8}
 use Rattle.css_syntax.specs.Placed.{placed_statements}
-use Rattle.css_selectors.specs.NameViews.{texts_of}
+use Rattle.css_selector_text.specs.NameViews.{texts_of}
 use Rattle.css_sheet.specs.Namespaces.{names_from, names_among}
 use Rattle.css_sheet.specs.NamespaceViews.{names_owned}
 use Rattle.css_sheet.proofs.namespaces.SheetNamespaces.read_among.Given as goal

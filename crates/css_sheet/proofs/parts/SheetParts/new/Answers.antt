@@ -1,6 +1,6 @@
 use Rattle.std.proofs.Common.{◌≡◌, ◌∙◌, [], ℕ, List, length, map, sym, ap, rules}
 use Rattle.std.proofs.lemmas.List.{length-map}
-use Rattle.css_selectors.specs.NameViews.{names_of}
+use Rattle.css_selector_text.specs.NameViews.{names_of}
 use Rattle.css_sheet.specs.declared.parts.OpenRule.{OpenRule}
 use Rattle.css_sheet.specs.GroupViews.{group_rule_of}
 use Rattle.css_sheet.specs.SheetParts.{Source, parts_given}

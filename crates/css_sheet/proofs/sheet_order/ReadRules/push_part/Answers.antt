@@ -1,5 +1,5 @@
 use Rattle.std.proofs.Common.{◌≡◌, ◌∙◌, Bool, List, not, map, ap, subst, rules}
-use Rattle.css_selectors.specs.NameViews.{names_of}
+use Rattle.css_selector_text.specs.NameViews.{names_of}
 use Rattle.css_sheet.specs.declared.parts.OpenRule.{OpenRule}
 use Rattle.css_sheet.specs.OpenParents.{ParentsText, after_part_of}
 use Rattle.css_sheet.specs.ParentViews.{parents_of}

@@ -4,7 +4,7 @@ use Rattle.css_sheet.specs.internal.PartViews.{GivesPart}
 use Rattle.css_sheet.specs.SheetLayers.{sheet_layers, with_layers}
 use Rattle.css_sheet.specs.internal.OpenViews.{AreFew, AreMany}
 use Rattle.css_sheet.specs.Sheets.{outermost_at}
-use Rattle.css_selectors.specs.Names.{Names}
+use Rattle.css_selector_text.specs.Names.{Names}
 use Rattle.css_sheet.specs.SheetParts.{parts_given, sheet_parts}
 use Rattle.css_sheet.specs.SheetRuleViews.{sheet_of}
 use Rattle.css_sheet.proofs.GatherLemmas.{handed-error, reads-many, reads-none, reads-part, reads-over, reads-all, stopped-sheet}

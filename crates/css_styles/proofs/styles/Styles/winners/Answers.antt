@@ -1,15 +1,14 @@
-use Rattle.std.proofs.Common.{◌≡◌, ◌<◌, ◌≤◌, ◌∙◌, length, map, sym, ap, subst, arith}
+use Rattle.std.proofs.Common.{◌<◌, ◌≤◌, ◌∙◌, length, map, sym, ap, subst, arith}
 use Rattle.std.specs.Vec.{vec_len}
 use Rattle.std.specs.List.{All}
 use Rattle.css_matching.specs.ListTrees.{spot}
+use Rattle.css_index.specs.Found.{AreMatches}
 use Rattle.css_tree.specs.Pages.{page_document}
 use Rattle.css_tree.specs.Walks.{IsOpenAt}
-use Rattle.css_styles.specs.Contenders.{contenders}
 use Rattle.css_styles.specs.StyleViews.{StylesText, own_of}
-use Rattle.css_styles.specs.Winners.{AreReadBy, as_winner, counting_each, unbeaten, winners}
-use Rattle.css_styles.specs.internal.Numbered.{numbered_of}
+use Rattle.css_styles.specs.Winners.{applied, as_winner, winners}
 use Rattle.css_styles.proofs.GatherLemmas.{then-ok}
-use Rattle.css_styles.proofs.StyleLemmas.{all-contend, found-within}
+use Rattle.css_styles.proofs.StyleLemmas.{found-within}
 use Rattle.css_styles.proofs.styles.Styles.winners.Goals as goal
 
 pub matching-requires-clause-opened : goal.matching-requires-clause-opened
@@ -21,8 +20,8 @@ gather-requires c =
     subst (All (λ index. index < length c.self.inside.rules.now.rules)) (sym c.deref.ensures.value)
     (found-within _ _ _ _ _ c.self.invariant c.in_ok-matching.ensures.matches)
 
-pub find_unbeaten-requires : goal.find_unbeaten-requires
-find_unbeaten-requires c =
+pub find_winners-requires : goal.find_winners-requires
+find_winners-requires c =
     let numbered = c.in_ok-count.ensures.numbered in
     let best : c.in_ok-count.count ≤ vec_len c.make_room.new.best = c.in_ok-make_room.ensures.best in
     let standings : c.in_ok-count.count ≤ vec_len c.make_room.new.standings =
@@ -37,19 +36,21 @@ find_unbeaten-requires c =
     )
 
 pub returns-clause-winners : goal.returns-clause-winners
-returns-clause-winners c = λ read matches are_read decides.
-    let rules = c.self.inside.rules.now.rules in
+returns-clause-winners c =
     let own = own_of c.args.own in
-    let inside =
-    subst (λ (v : StylesText). AreReadBy read v.rules v.walk.selectors) (sym c.self.view_is) are_read in
-    let all : map numbered_of c.gather.new.contenders.items ≡ contenders matches rules own =
-    all-contend matches page_document (spot c.args.page.now c.args.element) read decides rules own
-    _ _ _ _ inside c.in_ok-matching.ensures.matches c.deref.ensures.value
-    c.in_ok-count.ensures.contenders in
-    then-ok c.find_unbeaten.result
-    (λ found. found ∙ ap (λ cs. map as_winner (unbeaten (counting_each cs))) all
-    ∙ ap (λ (v : StylesText). winners matches v.rules own) c.self.view_is)
-    c.find_unbeaten.ensures.unbeaten
+    let node = spot c.args.page.now c.args.element in
+    let indices = c.deref.result.now in
+    let found =
+    subst (AreMatches page_document node c.self.inside.walk.walk.selectors) (sym c.deref.ensures.value)
+    c.in_ok-matching.ensures.matches in
+    then-ok c.find_winners.result
+    (λ applied_to. (
+      indices,
+      subst (λ (v : StylesText). AreMatches page_document node v.walk.selectors indices) c.self.view_is found,
+      applied_to
+          ∙ ap (λ cs. map as_winner (applied cs)) c.in_ok-count.ensures.contenders
+          ∙ ap (λ (v : StylesText). winners v.rules indices own) c.self.view_is,
+    )) c.find_winners.ensures.applied
 
 pub returns-clause-opened : goal.returns-clause-opened
 returns-clause-opened c = c.in_ok-matching.ensures.opened

@@ -1,15 +1,16 @@
 use Rattle.std.proofs.Common.{◌≡◌, ◌<◌, ◌∙◌, length, map, sym, ap, subst}
 use Rattle.std.specs.List.{All}
 use Rattle.css_matching.specs.ListTrees.{spot}
+use Rattle.css_index.specs.Found.{AreMatches}
 use Rattle.css_tree.specs.Pages.{page_document}
 use Rattle.css_tree.specs.Walks.{IsOpenAt}
 use Rattle.css_styles.specs.Contenders.{contenders}
 use Rattle.css_styles.specs.StyleViews.{StylesText, names_of, own_of}
-use Rattle.css_styles.specs.Winners.{AreReadBy, AreWinners}
+use Rattle.css_styles.specs.Winners.{AreWinners}
 use Rattle.css_styles.specs.internal.Numbered.{numbered_of}
 use Rattle.css_styles.specs.internal.Stepping.{best_named}
 use Rattle.css_styles.proofs.GatherLemmas.{then-ok}
-use Rattle.css_styles.proofs.StyleLemmas.{all-contend, found-within}
+use Rattle.css_styles.proofs.StyleLemmas.{found-within}
 use Rattle.css_styles.proofs.WinningLemmas.{are-winners}
 use Rattle.css_styles.proofs.styles.Styles.winners_named.Goals as goal
 
@@ -23,25 +24,25 @@ gather-requires c =
     (found-within _ _ _ _ _ c.self.invariant c.in_ok-matching.ensures.matches)
 
 pub returns-clause-winners : goal.returns-clause-winners
-returns-clause-winners c = λ read matches are_read decides.
-    let rules = c.self.inside.rules.now.rules in
+returns-clause-winners c =
     let own = own_of c.args.own in
     let asked = names_of c.args.asked.now in
-    let inside =
-    subst (λ (v : StylesText). AreReadBy read v.rules v.walk.selectors) (sym c.self.view_is) are_read in
-    let all : map numbered_of c.deref-2.result.now ≡ contenders matches rules own =
-    ap (map numbered_of) c.deref-2.ensures.value
-    ∙ all-contend matches page_document (spot c.args.page.now c.args.element) read decides rules own
-    _ _ _ _ inside c.in_ok-matching.ensures.matches c.deref.ensures.value
-    c.in_ok-gather.ensures.contenders in
-    let whole : map numbered_of c.deref-2.result.now
-    ≡ contenders matches c.args.self.now.rules own =
-    all ∙ ap (λ (v : StylesText). contenders matches v.rules own) c.self.view_is in
+    let node = spot c.args.page.now c.args.element in
+    let indices = c.deref.result.now in
+    let found =
+    subst (AreMatches page_document node c.self.inside.walk.walk.selectors) (sym c.deref.ensures.value)
+    c.in_ok-matching.ensures.matches in
+    let whole : map numbered_of c.deref-2.result.now ≡ contenders c.args.self.now.rules indices own =
+    ap (map numbered_of) c.deref-2.ensures.value ∙ c.in_ok-gather.ensures.contenders
+    ∙ ap (λ (v : StylesText). contenders v.rules indices own) c.self.view_is in
     then-ok c.find_asked.result
-    (λ found. subst (AreWinners (contenders matches c.args.self.now.rules own) asked)
-    (sym (found ∙ ap (λ cs. map (best_named cs) asked) whole))
-    (are-winners (contenders matches c.args.self.now.rules own) asked))
-    c.find_asked.ensures.winners
+    (λ best. (
+      indices,
+      subst (λ (v : StylesText). AreMatches page_document node v.walk.selectors indices) c.self.view_is found,
+      subst (AreWinners (contenders c.args.self.now.rules indices own) asked)
+          (sym (best ∙ ap (λ cs. map (best_named cs) asked) whole))
+          (are-winners (contenders c.args.self.now.rules indices own) asked),
+    )) c.find_asked.ensures.winners
 
 pub returns-clause-opened : goal.returns-clause-opened
 returns-clause-opened c = c.in_ok-matching.ensures.opened

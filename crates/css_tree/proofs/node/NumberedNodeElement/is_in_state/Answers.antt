@@ -1,5 +1,5 @@
 use Rattle.std.proofs.Common.{◌≡◌, false, ◌||◌, ap, sym, ◌∙◌}
-use Rattle.simplecss_tree.specs.TreeNodes.{states_at}
+use Rattle.css_elements.specs.TreeNodes.{states_at}
 use Rattle.css_tree.specs.Pages.{is_in_state, is_in_page_state, is_in_named}
 use Rattle.css_tree.proofs.node.NumberedNodeElement.is_in_state.Goals as goal
 

@@ -1,5 +1,5 @@
 use Rattle.std.proofs.Common.{ap, ◌∙◌}
-use Rattle.simplecss_tree.specs.TreeNodes.{attributes_at}
+use Rattle.css_elements.specs.TreeNodes.{attributes_at}
 use Rattle.css_tree.proofs.Reporting.{name_read}
 use Rattle.css_tree.proofs.node.NumberedNodeKeyed.attribute_name.Goals as goal
 

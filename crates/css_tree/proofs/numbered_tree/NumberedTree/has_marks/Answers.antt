@@ -1,10 +1,10 @@
 use Rattle.std.proofs.Common.{◌≡◌, ◌<◌, length, map, take, IsTrue, ap, sym, subst, ◌↔◌, ◌∙◌, arith}
 use Rattle.std.specs.Prelude.{◌||◌}
 use Rattle.std.proofs.lemmas.List.{with_items_is}
-use Rattle.css_selectors.specs.declared.components.Complex.{out-Complex}
-use Rattle.css_selectors.specs.Components.{parts_from, selectors_from}
+use Rattle.css_selector_text.specs.declared.components.Complex.{out-Complex}
+use Rattle.css_selector_text.specs.Components.{parts_from, selectors_from}
 use Rattle.css_selectors.specs.Meanings.{part_count}
-use Rattle.css_selectors.specs.Views.{complex_of, part_of}
+use Rattle.css_selector_text.specs.Views.{complex_of, part_of}
 use Rattle.css_selectors.proofs.PartLemmas.{part_count-from}
 use Rattle.css_tree.specs.HasSelectors.{HasAny}
 use Rattle.css_tree.specs.Steps.{is_set, Leads}

@@ -1,7 +1,7 @@
 -- The elements from which one of the selectors so far has a match are marked.
 use Rattle.std.proofs.Common.{◌≡◌, ◌<◌, ◌↔◌, ℕ, IsTrue, length, map, take}
-use Rattle.css_selectors.specs.Components.{selectors_from}
-use Rattle.css_selectors.specs.Views.{complex_of}
+use Rattle.css_selector_text.specs.Components.{selectors_from}
+use Rattle.css_selector_text.specs.Views.{complex_of}
 use Rattle.css_tree.specs.HasSelectors.{HasAny}
 use Rattle.css_tree.specs.Steps.{is_set}
 use Rattle.css_tree.proofs.numbered_tree.NumberedTree.has_marks.Given as goal

@@ -1,7 +1,7 @@
 -- The elements that lead to others for the parts from the index on are marked.
 use Rattle.std.proofs.Common.{◌≡◌, ◌<◌, ◌↔◌, ℕ, IsTrue, drop, length, map}
-use Rattle.css_selectors.specs.Components.{parts_from}
-use Rattle.css_selectors.specs.Views.{part_of}
+use Rattle.css_selector_text.specs.Components.{parts_from}
+use Rattle.css_selector_text.specs.Views.{part_of}
 use Rattle.css_tree.specs.Steps.{is_set, Leads}
 use Rattle.css_tree.proofs.numbered_tree.NumberedTree.leading.Given as goal
 

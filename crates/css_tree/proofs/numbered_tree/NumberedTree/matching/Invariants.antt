@@ -1,9 +1,9 @@
 -- The elements so far are answered.
 use Rattle.std.proofs.Common.{◌≡◌, ◌<◌, ◌↔◌, ℕ, IsTrue, length, map}
 use Rattle.css_matching.specs.ListTrees.{spot}
-use Rattle.css_selectors.specs.Components.{selectors_from}
+use Rattle.css_selector_text.specs.Components.{selectors_from}
 use Rattle.css_selectors.specs.Meanings.{MatchesAny}
-use Rattle.css_selectors.specs.Views.{complex_of}
+use Rattle.css_selector_text.specs.Views.{complex_of}
 use Rattle.css_tree.specs.Pages.{page_document}
 use Rattle.css_tree.specs.Steps.{is_set}
 use Rattle.css_tree.proofs.numbered_tree.NumberedTree.matching.Given as goal

@@ -1,6 +1,6 @@
 use Rattle.std.proofs.Common.{map, ap, ◌∙◌, arith}
-use Rattle.css_selectors.specs.Components.{selectors_from}
-use Rattle.css_selectors.specs.Views.{complex_of, progression_of}
+use Rattle.css_selector_text.specs.Components.{selectors_from}
+use Rattle.css_selector_text.specs.Views.{complex_of, progression_of}
 use Rattle.css_tree.specs.Visits.{is_numbered_at}
 use Rattle.css_tree.proofs.VisitLemmas.{answered_all}
 use Rattle.css_tree.proofs.numbered_tree.NumberedTree.nth_marks.Goals as goal

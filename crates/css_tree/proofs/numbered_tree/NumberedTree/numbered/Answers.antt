@@ -1,8 +1,8 @@
 use Rattle.std.proofs.Common.{◌≡◌, ◌+◌, ◌<◌, suc, true, false, length, get_or, ap, sym, subst, ◌∙◌, arith}
 use Rattle.std.proofs.Math.ListN.{set}
 use Rattle.std.proofs.lemmas.List.{with_items_is}
-use Rattle.css_selectors.specs.Numbers.{is_numbered}
-use Rattle.css_selectors.specs.Views.{progression_of}
+use Rattle.css_selector_text.specs.reading.Numbers.{is_numbered}
+use Rattle.css_selector_text.specs.Views.{progression_of}
 use Rattle.css_tree.specs.Pages.{family}
 use Rattle.css_tree.specs.Steps.{is_set}
 use Rattle.css_tree.specs.Visits.{visited, is_counted, count_visited, AreCounted}

@@ -1,5 +1,5 @@
 -- The elements that were visited are counted and answered.
-use Rattle.css_selectors.specs.Views.{progression_of}
+use Rattle.css_selector_text.specs.Views.{progression_of}
 use Rattle.css_tree.specs.Visits.{AreCounted}
 use Rattle.css_tree.proofs.VisitLemmas.{AreAnswered}
 use Rattle.css_tree.proofs.numbered_tree.NumberedTree.numbered.Given as goal

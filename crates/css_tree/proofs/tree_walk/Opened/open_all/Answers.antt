@@ -3,8 +3,8 @@ use Rattle.css_index.specs.Walks.{IsOpenTo}
 use Rattle.css_tree.specs.Pages.{Page, page_document}
 use Rattle.css_tree.specs.Walks.{IsOpenAt}
 use Rattle.css_tree.specs.Reports.{reported_of}
-use Rattle.simplecss_tree.specs.Ways.{LeadsTo}
-use Rattle.simplecss_tree.proofs.Walking.{leads_pop, none_left, node_is, node_there}
+use Rattle.css_elements.specs.Ways.{LeadsTo}
+use Rattle.css_elements.proofs.Walking.{leads_pop, none_left, node_is, node_there}
 use Rattle.css_tree.proofs.Walking.{open_above}
 use Rattle.css_tree.proofs.tree_walk.Opened.open_all.Goals as goal
 
