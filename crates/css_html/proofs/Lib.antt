@@ -1,0 +1,12 @@
+pub mod ReferenceLemmas
+pub mod DecodingLemmas
+pub mod Placed
+pub mod Written
+pub mod Tiles
+pub mod Raw
+pub mod Frames
+pub mod TokenFrames
+pub mod Inserted
+pub mod Closed
+pub mod Texts
+pub mod Edited

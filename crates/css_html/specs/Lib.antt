@@ -1,0 +1,11 @@
+pub mod Modes
+pub mod Marks
+pub mod ReferenceNames
+pub mod References
+pub mod ReferenceViews
+pub mod Decoding
+pub mod Attributes
+pub mod Tokens
+pub mod Views
+pub mod Written
+pub mod Locality
