@@ -1,0 +1,35 @@
+use Rattle.std.proofs.Common.{◌⊎◌, rules, ◌≡◌, map, sym, subst, ◌∙◌, ap}
+use Rattle.std.specs.Str.{IsUtf8}
+use Rattle.call_answers.specs.Calls.{HasTexts, IsBrokenUtf8}
+use Rattle.css_clean.specs.Views.{sheet_policy_of}
+use Rattle.clean_calls.specs.Passed.{passed_of, IsNoPolicy}
+use Rattle.clean_calls.specs.CleanCalls.{is_clean_text, says}
+use Rattle.clean_calls.proofs.Kept.{fails-more}
+use Rattle.clean_calls.proofs.cleaning.told.Goals as goal
+
+pub policy_of-requires : goal.policy_of-requires
+policy_of-requires c =
+    let passed = passed_of c.args.passed.now in
+    record {
+      passed = subst (λ xs. HasTexts passed.texts passed.ends (map (λ t. t.now) xs)) (sym c.as_slice.ensures.value)
+          c.in_ok-text.ensures.2;
+    }
+
+pub returns-in_err-policy : goal.returns-in_err-policy
+returns-in_err-policy c =
+    let passed = passed_of c.args.passed.now in
+    let more = fails-more (IsNoPolicy c.args.form passed)
+    (¬ (IsUtf8 c.args.text.now) ⊎ IsBrokenUtf8 passed.texts passed.ends) c.in_err-policy.field-0.0
+    c.in_err-policy.ensures in
+    search rules
+
+pub returns : goal.returns
+returns c =
+    let policy = sheet_policy_of c.in_ok-policy.policy in
+    let same : c.in_ok-holds.holds ≡ is_clean_text c.args.form policy c.args.text.now =
+    c.in_ok-holds.ensures ∙ ap (is_clean_text c.args.form policy) c.in_ok-text.ensures.0 in (
+      policy,
+      c.in_ok-text.ensures.1,
+      c.in_ok-policy.ensures,
+      c.in_ok-word.ensures ∙ ap says same,
+    )

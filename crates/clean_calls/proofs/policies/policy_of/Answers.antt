@@ -1,0 +1,10 @@
+use Rattle.std.proofs.Common.{map, rules}
+use Rattle.call_answers.specs.Calls.{HasTexts}
+use Rattle.clean_calls.specs.Passed.{passed_of}
+use Rattle.clean_calls.proofs.policies.policy_of.Goals as goal
+
+pub returns-then-branch : goal.returns-then-branch
+returns-then-branch c =
+    let p = passed_of c.args.passed.now in
+    let all = map (λ t. t.now) c.args.texts.now in
+    let has : HasTexts p.texts p.ends all = search rules in (all, has, c.in_ok-policy.ensures)

@@ -1,0 +1,4 @@
+pub mod CleanLemmas
+pub mod FollowingLemmas
+pub mod SelectorLemmas
+pub mod SheetLemmas
