@@ -1,0 +1,57 @@
+//! Mistakes in style sheets: what a person probably did not mean.
+//!
+//! Every text is looked through, in time and memory linear in its length times the number of names that are known.
+#![tactic(auto)]
+
+mod blocks;
+mod data;
+mod declarations;
+mod findings;
+mod keyframes;
+mod kinds;
+mod known_values;
+mod late;
+mod linter;
+mod met;
+mod preludes;
+mod references;
+mod repeated;
+mod selectors;
+mod sheets;
+mod shorthands;
+mod texts;
+mod value_data;
+mod values;
+mod vocabulary;
+mod whitespace;
+
+pub use findings::{Edit, Finding, Meant};
+pub use kinds::{About, KINDS, Kind, Severity};
+pub use known_values::{Known, KnownValues, takes_value};
+use linter::Linter;
+use std::alloc::{AllocError, Global};
+use texts::Piece;
+pub use vocabulary::{Names, Near, Vocabulary};
+
+/// Returns the mistakes of a style sheet, and if that is asked for, what is valid and not supported. They are in the order
+/// in which they were found. Fails only if an allocation fails.
+pub fn lint_sheet(alloc: Global, text: &str, shows_all: bool) -> Result<Vec<Finding>, AllocError> {
+    let mut linter = Linter::new(alloc, shows_all)?;
+    linter.sheet(text)?;
+    Ok(linter.found)
+}
+
+/// Returns the mistakes of a style attribute, as [`lint_sheet`] does.
+pub fn lint_attribute(
+    alloc: Global,
+    text: &str,
+    shows_all: bool,
+) -> Result<Vec<Finding>, AllocError> {
+    let mut linter = Linter::new(alloc, shows_all)?;
+    let piece = Piece {
+        text,
+        end: text.len(),
+    };
+    linter.rule_block(piece, false)?;
+    Ok(linter.found)
+}
