@@ -14,9 +14,10 @@ cssq reads CSS 2.1 selectors and style sheets, and says which elements of a tree
   cssq style FILE TREE NAME    for each element the value of the winning declaration of a name
   cssq --help, --version       this text, and the version
 
-A tree is a text with a line for each element, in the order of the document. Its fields have TABs
-between them: the depth (0 for a root, and else one more than the parent's), the name, and then the
-attributes as key=value, with no quotes: class=note, or class=note small for two classes.
+A tree is a page in HTML, if its name ends in .html or .htm. Else it is a text with a line for each
+element, in the order of the document. Its fields have TABs between them: the depth (0 for a root,
+and else one more than the parent's), the name, and then the attributes as key=value, with no quotes:
+class=note, or class=note small for two classes.
 
   printf '0\\tdiv\\n1\\tp\\tclass=note\\n' > page.tree
   printf '.note { color: red }\\n' > page.css

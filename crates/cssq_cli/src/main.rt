@@ -6,6 +6,7 @@ mod help;
 mod inputs;
 mod limit;
 mod output;
+mod pages;
 mod trees;
 mod visible;
 mod warnings;
@@ -18,6 +19,7 @@ use inputs::{INPUT, read_file, read_input};
 use limit::{read_limit, write_beyond};
 use log::sink::Discard;
 use output::Output;
+use pages::{Unread, is_page, tree_of_page};
 use simplecss::{Reading, StyleSheet};
 use std::io::Write;
 use std::process::ExitCode;
@@ -150,6 +152,24 @@ fn show_sheet(rt: &HostRuntime, names: &[String]) -> Result<ExitCode, ExitCode> 
     Ok(written(rt, outcome, &out))
 }
 
+/// Returns the text of the tree in a file, which may be a page, or the exit status if there is none.
+fn read_tree(rt: &HostRuntime, name: &str) -> Result<String, ExitCode> {
+    let Some(text) = read_file(rt, name) else {
+        return Err(unreadable(rt, name));
+    };
+    if !is_page(name) {
+        return Ok(text);
+    }
+    match tree_of_page(rt, name, text.as_str()) {
+        Ok(tree) => Ok(tree),
+        Err(Unread::Memory) => Err(ended(rt, Err(RunFault::Memory))),
+        Err(Unread::Refused(reason)) => {
+            let _ = writeln!(visible_stderr(rt), "{name}: {reason}");
+            Err(unreadable(rt, name))
+        }
+    }
+}
+
 /// Writes what is likely not meant in the text of a tree, and why it has a fault.
 fn warn_of_tree(rt: &HostRuntime, name: &str, text: &str, outcome: &Result<(), RunFault>) {
     if has_crlf(text) {
@@ -176,9 +196,7 @@ fn show_elements(
     let Some(sheet) = read_file(rt, file) else {
         return Err(unreadable(rt, file));
     };
-    let Some(page) = read_file(rt, tree) else {
-        return Err(unreadable(rt, tree));
-    };
+    let page = read_tree(rt, tree)?;
     let page = page.as_str();
     let view = match name {
         Some(name) => View::Winners(page, name),

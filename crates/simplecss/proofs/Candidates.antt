@@ -295,7 +295,8 @@ sum_of_tested test selectors candidates cost are =
     ∙ sum_of_values (selector_at selectors) test cost (range_with_len 0 (length selectors))
     ∙ ap (λ ss. sum_by cost (filter test ss)) (values_at selectors [])
 
-ones : {X : Type 0} (xs : List X) → sum_by (λ x. 1) xs ≡ length xs
+-- so many ones are the length
+pub ones : {X : Type 0} (xs : List X) → sum_by (λ x. 1) xs ≡ length xs
 ones [] = refl
 ones (x ∷ xs) =
     let first = sum_by-cons (λ x. 1) x xs in

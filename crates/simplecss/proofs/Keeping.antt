@@ -165,7 +165,8 @@ module _ {V S : Type 0} (f : V → List S) (IsMet : List S → Type 0) (vs : Lis
         default : (xs : List ℕ) (j d e : ℕ) → j < length xs → get_or xs j d ≡ get_or xs j e
         default xs j d e l = grind (arith, common_steps)
 
-    at : get_or (map f vs) (get_or now i 0) [] ≡ f (get_or vs (get_or now i 0) v)
+    -- what is at the index that is read
+    pub at : get_or (map f vs) (get_or now i 0) [] ≡ f (get_or vs (get_or now i 0) v)
     at = get_or-map f vs (get_or now i 0) v []
         (subst (λ index. index < length vs) (sym here) (within i 0 lt))
 
@@ -189,20 +190,29 @@ module _ {V S : Type 0} (f : V → List S) (IsMet : List S → Type 0) (vs : Lis
         subst IsMet at (all (get_or now i 0)
         (subst (Contains indices) (sym here) (Contains-get_or indices i 0 lt)) known)
 
-    -- and it was tested
+    -- what a cost is of the index that is read, and with it of the indices before
+    total : (cost : List S → ℕ)
+        → sum_by (λ index. cost (get_or (map f vs) index [])) (take (i + 1) indices)
+        ≡ sum_by (λ index. cost (get_or (map f vs) index [])) (take i indices)
+        + cost (f (get_or vs (get_or now i 0) v))
+    total cost =
+        sum_by_more (λ index. cost (get_or (map f vs) index [])) indices i 0 lt
+        ∙ ap (λ n. sum_by (λ index. cost (get_or (map f vs) index [])) (take i indices) + n)
+        (ap (λ index. cost (get_or (map f vs) index [])) (sym here) ∙ ap cost at)
+
+    -- and it was tested, at most so often
     pub tested_more : (cost : List S → ℕ) (old tests new : ℕ)
         → tests ≤ old + sum_by (λ index. cost (get_or (map f vs) index [])) (take i indices)
         → new ≤ tests + cost (f (get_or vs (get_or now i 0) v))
         → new ≤ old + sum_by (λ index. cost (get_or (map f vs) index [])) (take (i + 1) indices)
-    tested_more cost old tests new so_far one =
-        let total : sum_by (λ index. cost (get_or (map f vs) index [])) (take (i + 1) indices)
-        ≡ sum_by (λ index. cost (get_or (map f vs) index [])) (take i indices)
-        + cost (get_or (map f vs) (get_or indices i 0) []) =
-        sum_by_more (λ index. cost (get_or (map f vs) index [])) indices i 0 lt in
-        let last : cost (get_or (map f vs) (get_or indices i 0) [])
-        ≡ cost (f (get_or vs (get_or now i 0) v)) =
-        ap (λ index. cost (get_or (map f vs) index [])) (sym here) ∙ ap cost at in
-        omega (arith, so_far, one, total, last)
+    tested_more cost old tests new so_far one = omega (arith, so_far, one, total cost)
+
+    -- and at least so often
+    pub tested_least : (cost : List S → ℕ) (old tests new : ℕ)
+        → old + sum_by (λ index. cost (get_or (map f vs) index [])) (take i indices) ≤ tests
+        → tests + cost (f (get_or vs (get_or now i 0) v)) ≤ new
+        → old + sum_by (λ index. cost (get_or (map f vs) index [])) (take (i + 1) indices) ≤ new
+    tested_least cost old tests new so_far one = omega (arith, so_far, one, total cost)
 
 -- what a slice of a vector's items left there, if its length is unchanged
 pub written_back : {V : Type 0} (old new : List V) (n : ℕ) → n ≡ length old

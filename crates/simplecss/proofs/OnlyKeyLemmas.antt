@@ -1,9 +1,10 @@
 -- A selector that requires nothing but its key matches whatever has the key.
 -- Serves `index::keep::keep_matching` and `RuleIndex::matching_exact`.
-use Rattle.std.proofs.Common.{◌≡◌, ℕ, ◌<◌, List, [], ◌∷◌, ◌++◌, Option, Some, None, Bool, true, false, IsTrue, length, get_or, refl, sym, ap, ◌∙◌, subst}
-use Rattle.std.specs.List.{Contains}
+use Rattle.std.proofs.Common.{◌≡◌, ℕ, ◌<◌, List, [], ◌∷◌, ◌++◌, Option, Some, None, Bool, true, false, IsTrue, length, get_or, refl, sym, ap, ◌∙◌, subst, arith}
+use Rattle.std.specs.List.{All, Contains, filter, list_all, sum_by}
 use Rattle.std.proofs.lemmas.List.Elements.{All-push}
-use Rattle.std.specs.Prelude.{bytes_eq, codes, ◌&&◌}
+use Rattle.std.proofs.lemmas.List.Sums.{AllPass-from_list_all, list_all-from_AllPass, sum_by-cons}
+use Rattle.std.specs.Prelude.{◌+◌, ◌↔◌, bytes_eq, codes, ◌&&◌, not, if◌then◌else◌}
 use Rattle.std.proofs.lemmas.Bool.{false≢true}
 use Rattle.std.proofs.lemmas.Slice.Eq.{bytes_eq-Decides}
 use Rattle.simplecss_grammar.specs.Components.{Component, Compound, Subselector, Operator, Combinator}
@@ -16,8 +17,10 @@ use Rattle.simplecss_selector.specs.Keys.Key.{by_id, by_class, by_name, by_attri
 use Rattle.simplecss_selector.specs.Placements.{IsAncestor, HasName, Holds, Meets, Relates, HasPlacement}
 use Rattle.simplecss_selector.specs.Placements.IsAncestor.{is_parent, is_further}
 use Rattle.simplecss_selector.specs.Trees.{Tree}
-use Rattle.simplecss_selector.specs.Buckets.{Near, IsNear, reports_bucket}
-use Rattle.simplecss.specs.internal.OnlyKeys.{only_tree, only_has, IsOnlyKey, IsKnown}
+use Rattle.simplecss_selector.specs.Buckets.{Bucket, Near, IsNear, reports_bucket, bucket_of}
+use Rattle.simplecss_selector.specs.Buckets.Bucket.{of_element, of_parent, of_previous}
+use Rattle.simplecss.specs.OnlyKeys.{only_has, only_name, only_holds, only_meets, requires_only, requires_only_key}
+use Rattle.simplecss.specs.internal.OnlyKeys.{only_tree}
 use Rattle.simplecss.specs.internal.NeededKeys.{AreOnly}
 use Rattle.simplecss.specs.internal.Chains.{selectors_of}
 use Rattle.simplecss.specs.declared.index.link.Link.{Link}
@@ -106,6 +109,74 @@ module _ {Node : Type 0} (tree : Tree Node) (n : Node) where
   only_placed key (c ∷ d ∷ cs) (m ∷ [], h) has = absurd h.1
   only_placed key (c ∷ d ∷ cs) (m ∷ x ∷ xs, h) has = absurd (no_relative d.combinator m x h.1.0)
 
+-- a node that has only the key has what the key is all of, and nothing else
+name_only : (key : Key) (name : Option (List ℕ)) → HasName only_tree key name ↔ IsTrue (only_name key name)
+name_only key None = (λ h. refl, λ h. tt)
+name_only key (Some name) = (λ h. h, λ h. h)
+
+holds_only : (key : Key) (s : Subselector) → Holds only_tree key s ↔ IsTrue (only_holds key s)
+holds_only key (attribute name operator) = (λ h. h, λ h. h)
+holds_only key (pseudo_class class) = (λ h. h, λ h. h)
+
+all_only : (key : Key) (ss : List Subselector)
+    → All (Holds only_tree key) ss ↔ IsTrue (list_all (only_holds key) ss)
+all_only key ss = (
+  λ h. list_all-from_AllPass (only_holds key) ss (λ k d lt. (holds_only key (get_or ss k d)).0 (h k d lt)),
+  λ h k d lt. (holds_only key (get_or ss k d)).1 (AllPass-from_list_all (only_holds key) ss h k d lt),
+)
+
+both_true : (a b : Bool) → IsTrue a → IsTrue b → IsTrue (a && b)
+both_true true b h k = k
+both_true false b h k = absurd (false≢true h)
+
+split_true : (a b : Bool) → IsTrue (a && b) → IsTrue a × IsTrue b
+split_true true b h = (refl, h)
+split_true false b h = absurd (false≢true h)
+
+-- two answers that are true in the same cases
+pub same_truth : (a b : Bool) → IsTrue a ↔ IsTrue b → a ≡ b
+same_truth true true h = refl
+same_truth true false h = sym (h.0 refl)
+same_truth false true h = h.1 refl
+same_truth false false h = refl
+
+-- it matches exactly what requires nothing but the key
+pub only_placement : (key : Key) (cs : List Component) → HasPlacement only_tree cs key ↔ IsTrue (only_meets key cs)
+only_placement key cs = (there key cs, back key cs)
+  where
+    there : (key : Key) (cs : List Component) → HasPlacement only_tree cs key → IsTrue (only_meets key cs)
+    there key [] (nodes, h) = absurd h
+    there key (c ∷ cs) ([], h) = absurd h
+    there key (c ∷ []) (m ∷ [], (met, is)) =
+        let own : Meets only_tree key c.compound = subst (λ k. Meets only_tree k c.compound) is met in
+        both_true _ _ ((name_only key c.compound.name).0 own.0)
+        ((all_only key c.compound.subselectors).0 own.1)
+    there key (c ∷ []) (m ∷ x ∷ xs, h) = absurd h.1
+    there key (c ∷ d ∷ cs) (m ∷ [], h) = absurd h.1
+    there key (c ∷ d ∷ cs) (m ∷ x ∷ xs, h) = absurd (no_relative d.combinator m x h.1.0)
+
+    back : (key : Key) (cs : List Component) → IsTrue (only_meets key cs) → HasPlacement only_tree cs key
+    back key [] h = absurd (false≢true h)
+    back key (c ∷ []) h =
+        let both = split_true _ _ h in (
+          key ∷ [],
+          (
+            (
+              (name_only key c.compound.name).1 both.0,
+              (all_only key c.compound.subselectors).1 both.1,
+            ),
+            refl,
+          ),
+        )
+    back key (c ∷ d ∷ cs) h = absurd (false≢true h)
+
+-- a bucket of the element whose key is all that the selector requires
+bucket_only : (bucket : Bucket) (selector : List Component) → IsTrue (requires_only bucket selector)
+    → (key : Key) × (bucket ≡ of_element key) × IsTrue (only_meets key selector)
+bucket_only (of_element key) selector h = (key, refl, h)
+bucket_only (of_parent key) selector h = absurd (false≢true h)
+bucket_only (of_previous key) selector h = absurd (false≢true h)
+
 -- of the selectors whose key is reported, those that require nothing but the key match an element
 -- that reports only keys that it has
 pub known_placed : {Node Self : Type 0} (tree : Tree Node) (node : Self → Node)
@@ -114,40 +185,49 @@ pub known_placed : {Node Self : Type 0} (tree : Tree Node) (node : Self → Node
     → ReportsOnlyKeys tree (node element) (reported element)
     → (keeps : List Component → Bool) (selectors : List (List Component)) (indices : List ℕ)
     → AreKept near keeps selectors indices → (index : ℕ) → Contains indices index
-    → IsOnlyKey (selector_at selectors index) → HasPlacement tree (selector_at selectors index) (node element)
+    → IsTrue (requires_only_key (selector_at selectors index))
+    → HasPlacement tree (selector_at selectors index) (node element)
 known_placed tree node reported element near is only keeps selectors indices kept index there known =
-    only_placed tree (node element) known.0 (selector_at selectors index) known.2
-    (only known.0 (subst (λ r. IsTrue (reports_key r known.0)) is.own
-    (subst (λ w. IsTrue (reports_bucket near w)) known.1
-    (first (reports_bucket near (key_at selectors index)) (keeps (selector_at selectors index))
-    ((kept.exactly index).0 there).1))))
-  where
-    first : (a b : Bool) → IsTrue (a && b) → IsTrue a
-    first true b h = refl
-    first false b h = absurd (false≢true h)
-
--- where a search is not exact, nothing is known
-pub never_known : (exact known : Bool) → exact ≡ false → (IsTrue known → IsTrue exact)
-    → known ≡ false
-never_known exact true plain h = absurd (false≢true (sym plain ∙ h refl))
-never_known exact false plain h = refl
+    let selector = selector_at selectors index in
+    let own = bucket_only (bucket_of selector) selector known in
+    only_placed tree (node element) own.0 selector ((only_placement own.0 selector).1 own.2)
+    (only own.0 (subst (λ r. IsTrue (reports_key r own.0)) is.own
+    (subst (λ w. IsTrue (reports_bucket near w)) own.1
+    (split_true (reports_bucket near (key_at selectors index)) (keeps selector)
+    ((kept.exactly index).0 there).1).0)))
 
 -- a link after others, of a selector
 pub only_push : (links more : List Link) (link : Link) (s : List Component) → AreOnly links
-    → link.selector.value ≡ s → (IsTrue link.is_only_key → IsOnlyKey s) → more ≡ links ++ link ∷ []
+    → link.selector.value ≡ s → link.is_only_key ≡ requires_only_key s → more ≡ links ++ link ∷ []
     → AreOnly more
 only_push links more link s are is only e =
-    subst AreOnly (sym e) (All-push (λ l. IsTrue l.is_only_key → IsOnlyKey l.selector.value)
-    links link are (λ h. subst IsOnlyKey (sym is) (only h)))
+    subst AreOnly (sym e) (All-push (λ l. l.is_only_key ≡ requires_only_key l.selector.value)
+    links link are (only ∙ ap requires_only_key (sym is)))
 
--- the selector of a link that says so
+-- the selector of a link
 pub only_at : (links : List Link) (selectors : List (List Component)) (index : ℕ) (link : Link)
     → AreOnly links → selectors_of links ≡ selectors → index < length links
-    → link ≡ get_or links index link → IsTrue link.is_only_key
-    → IsOnlyKey (selector_at selectors index)
-only_at links selectors index link are is lt read h =
+    → link ≡ get_or links index link
+    → link.is_only_key ≡ requires_only_key (selector_at selectors index)
+only_at links selectors index link are is lt read =
     let selector : link.selector.value ≡ selector_at selectors index =
     ap (λ l. l.selector.value) read ∙ sym (link_selector links index link lt)
     ∙ ap (λ ss. selector_at ss index) is in
-    subst IsOnlyKey selector (subst (λ l. IsTrue l.is_only_key → IsOnlyKey l.selector.value)
-    (sym read) (are index link lt) h)
+    subst (λ l. l.is_only_key ≡ requires_only_key l.selector.value) (sym read) (are index link lt)
+    ∙ ap requires_only_key selector
+
+-- what only those cost that are not known is what the others cost
+module _ {X : Type 0} (is : X → Bool) (cost : X → ℕ) where
+  unless_first : (b : Bool) (x : X) (xs : List X) → is x ≡ b
+      → sum_by cost (filter (λ y. not (is y)) (x ∷ xs))
+      ≡ (if b then 0 else cost x) + sum_by cost (filter (λ y. not (is y)) xs)
+  unless_first true x xs e = rw e (omega arith)
+  unless_first false x xs e = rw e (sum_by-cons cost x (filter (λ y. not (is y)) xs))
+
+  pub sum_unless : (xs : List X)
+      → sum_by (λ x. if is x then 0 else cost x) xs ≡ sum_by cost (filter (λ x. not (is x)) xs)
+  sum_unless [] = refl
+  sum_unless (x ∷ xs) =
+      sum_by-cons (λ y. if is y then 0 else cost y) x xs
+      ∙ ap (λ n. (if is x then 0 else cost x) + n) (sum_unless xs)
+      ∙ sym (unless_first (is x) x xs refl)

@@ -9,6 +9,7 @@ pub mod Hints
 pub mod HintViews
 pub mod SelectorIndices
 pub mod Matching
+pub mod OnlyKeys
 pub mod OpenPaths
 pub mod internal
 -- What contracts of the crates below name, under the names of this crate.

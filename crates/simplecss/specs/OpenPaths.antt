@@ -1,6 +1,6 @@
 -- Paths of open elements: the keys that a sheet's selectors need of ancestors have numbers, and a path
 -- has for each open element the numbers of the keys that it reports.
-use Rattle.std.specs.Prelude.{◌≡◌, ◌<◌, ◌↔◌, ◌&&◌, ℕ, List, [], ◌∷◌, ◌++◌, Bool, true, false, Option, Some, None, length, take, drop, slice_index_or, Contains, IsTrue, bytes_eq, nat_lt, filter, if◌then◌else◌}
+use Rattle.std.specs.Prelude.{◌≡◌, ◌<◌, ◌↔◌, ◌&&◌, ℕ, List, [], ◌∷◌, ◌++◌, Bool, true, false, Option, Some, None, length, take, drop, slice_index_or, Contains, IsTrue, bytes_eq, nat_lt, not, filter, if◌then◌else◌}
 use Rattle.std.specs.List.{fold, flat_map, list_any, list_all}
 use Rattle.simplecss_grammar.specs.Components.{Component}
 use Rattle.simplecss_selector.specs.AncestorKeys.{ancestor_keys}
@@ -9,6 +9,7 @@ use Rattle.simplecss_selector.specs.Keys.Key.{by_id, by_class, by_name, by_attri
 use Rattle.simplecss_selector.specs.Trees.{Tree}
 use Rattle.simplecss_selector.specs.Buckets.{Near, Bucket, reports_bucket, bucket_of}
 use Rattle.simplecss_selector.specs.Buckets.Bucket.{of_parent}
+use Rattle.simplecss.specs.OnlyKeys.{requires_only_key}
 use Rattle.simplecss.specs.SelectorIndices.{key_at}
 
 -- whether two keys are equal
@@ -115,11 +116,15 @@ abbrev pub are_open : List Key → List ℕ → List Component → Bool
 are_open keys listed selector =
     list_all (λ key. list_any (is_number keys key) listed) (ancestor_keys selector)
 
--- whether the selector is tested: its key is reported, and open elements report those of ancestors
-abbrev pub is_tested_open : Near → Path → List Component → Bool
-is_tested_open reported path selector = reports_bucket reported (bucket_of selector)
+-- whether the selector may match: its key is reported, and open elements report those of ancestors
+abbrev pub is_open_for : Near → Path → List Component → Bool
+is_open_for reported path selector = reports_bucket reported (bucket_of selector)
     && are_open (needed_keys path.selectors) path.listed selector
 
--- the selectors that are tested
+-- the selectors that may match
 abbrev pub open_for : Near → Path → List (List Component)
-open_for reported path = filter (is_tested_open reported path) path.selectors
+open_for reported path = filter (is_open_for reported path) path.selectors
+
+-- the selectors that are tested: those that may match and require more than their key
+abbrev pub tested_open : Near → Path → List (List Component)
+tested_open reported path = filter (λ selector. not (requires_only_key selector)) (open_for reported path)

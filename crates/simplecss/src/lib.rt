@@ -29,6 +29,6 @@ pub use sheet::{Reading, Rule, Statement, StatementReader, StyleSheet, find_skip
 pub use simplecss_declaration::{Declaration, DeclarationTokenizer};
 pub use simplecss_grammar::report::{Kept, Refusal, Report, Silent, Skipped, Why};
 pub use simplecss_selector::{
-    AttributeOperator, Element, Exact, Key, Keyed, ListRefusal, PseudoClass, Selector,
+    AttributeOperator, Bucket, Element, Exact, Key, Keyed, ListRefusal, PseudoClass, Selector,
     SelectorToken, SelectorTokenizer, Tests, Warnings, refused_pos,
 };

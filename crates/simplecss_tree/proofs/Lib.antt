@@ -1,4 +1,1 @@
-mod Growing
-pub mod Languages
-pub mod ErrorWrites
-pub mod Walking
+mod Walking

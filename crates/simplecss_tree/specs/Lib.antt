@@ -1,5 +1,2 @@
-pub mod Rows
 pub mod TreeNodes
-pub mod Messages
 pub mod Walks
-pub mod Ways

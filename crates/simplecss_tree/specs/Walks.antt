@@ -4,7 +4,7 @@ use Rattle.std.specs.Option.{option_map}
 use Rattle.simplecss.specs.Components.{Component}
 use Rattle.simplecss.specs.ListTrees.{spot}
 use Rattle.simplecss.specs.OpenPaths.{Path, IsOpenTo}
-use Rattle.simplecss_tree.specs.Rows.{Row}
+use Rattle.css_elements.specs.Rows.{Row}
 use Rattle.simplecss_tree.specs.TreeNodes.{element_tree, reported_at}
 
 -- what contracts see of a walk: the selectors, the path of open elements, and the index of the element

@@ -1,13 +1,9 @@
-//! A ready tree for programs that have none: elements in one list, against which selectors are
-//! matched.
+//! The ready tree of `css_elements`, against whose elements selectors of CSS 2.1 are matched.
 #![tactic(auto)]
 
 mod node;
 mod rule_walk;
-mod tree;
-mod ways;
 
-pub use node::Node;
+pub use css_elements::{States, Tree, TreeError};
+pub use node::{Node, Nodes};
 pub use rule_walk::RuleWalk;
-pub use tree::{States, Tree, TreeError};
-pub use ways::find_way;

@@ -1,10 +1,9 @@
 //! The elements of a tree, as selectors see them.
 ghost use Rattle.std.specs.Prelude.{◌≡◌, ◌<◌, length, Some, map, false};
 ghost use Rattle.std.specs.Option.{option_map};
-ghost use Rattle.simplecss_tree.specs.TreeNodes.{is_in_language, value_in};
-ghost use Rattle.simplecss_tree.specs.Rows.{attribute_of};
+ghost use Rattle.css_elements.specs.Rows.{attribute_of};
 
-use crate::Tree;
+use css_elements::Tree;
 use simplecss::{AttributeOperator, Element, Exact, Keyed, PseudoClass};
 use std::marker::Model;
 
@@ -12,15 +11,15 @@ use std::marker::Model;
 #[derive(Debug, Drop)]
 pub struct Node<'p, 't> {
     /// The tree of the element.
-    pub(crate) tree: &'p Tree<'t>,
+    tree: &'p Tree<'t>,
     /// Its index among the elements.
-    pub(crate) index: usize,
+    index: usize,
 }
 
 impl<'p, 't> Model for Node<'p, 't> {
     ghost use Rattle.std.specs.Prelude.{◌<◌, ℕ, List, length};
     ghost use Rattle.simplecss.specs.ListTrees.{spot};
-    ghost use Rattle.simplecss_tree.specs.Rows.{Row};
+    ghost use Rattle.css_elements.specs.Rows.{Row};
 
     ghost Value = { List Row × ℕ };
 
@@ -29,34 +28,31 @@ impl<'p, 't> Model for Node<'p, 't> {
     ghost invariant = { λ node. node.index < length node.tree.now };
 }
 
-/// Whether the language is the tag, or the tag and then a hyphen.
-pub(crate) fn is_in_language(tag: &str, language: &str) -> bool
-    ensures { result ≡ is_in_language tag.now language.now }
-{
-    let (tag, language) = (tag.as_bytes(), language.as_bytes());
-    if language.len() < tag.len() {
-        return false;
-    }
-    let (front, rest) = language.split_at(tag.len());
-    front.eq_ignore_ascii_case(tag) && (rest.is_empty() || rest[0] == b'-')
+/// A tree, as selectors of CSS 2.1 see it.
+pub trait Nodes<'t> {
+    /// Returns the element at an index, if there is one.
+    fn node(&self, index: usize) -> Option<Node<'_, 't>>;
 }
 
-/// Returns the value of the first attribute with the name, if there is one.
-pub(crate) fn value_in<'t>(attributes: &[(&'t str, &'t str)], name: &str) -> Option<&'t str>
-    ensures { option_map (λ value. value.now) result
-        ≡ value_in (map attribute_of attributes.now) name.now }
-{
-    for (key, value) in attributes {
-        if *key == name {
-            return Some(*value);
+impl<'t> Nodes<'t> for Tree<'t> {
+    ghost use Rattle.std.specs.Prelude.{◌≡◌, ◌<◌, ◌≤◌, length, MatchOption};
+    ghost use Rattle.simplecss.specs.ListTrees.{spot};
+
+    fn node(&self, index: usize) -> Option<Node<'_, 't>>
+        ensures { MatchOption result (length self.now ≤ index)
+            (λ node. (index < length self.now) × (node ≡ spot self.now index)) }
+    {
+        if index < self.len() {
+            Some(Node { tree: self, index })
+        } else {
+            None
         }
     }
-    None
 }
 
 impl<'p, 't> Node<'p, 't> {
-    ghost use Rattle.simplecss_tree.specs.TreeNodes.{name_at, attribute_at, attributes_at};
-    ghost use Rattle.simplecss_tree.specs.TreeNodes.{language_at};
+    ghost use Rattle.css_elements.specs.TreeNodes.{name_at, attribute_at, attributes_at};
+    ghost use Rattle.css_elements.specs.TreeNodes.{language_at};
 
     /// Returns the index among the elements of the tree, in the order in which they were added.
     pub fn index(&self) -> usize
@@ -104,7 +100,7 @@ impl<'p, 't> Node<'p, 't> {
 impl<'p, 't> Element for Node<'p, 't> {
     ghost use Rattle.std.specs.Prelude.{ℕ, List};
     ghost use Rattle.simplecss.specs.ListTrees.{list_counts_ancestors, list_shares_parents};
-    ghost use Rattle.simplecss_tree.specs.Rows.{Row};
+    ghost use Rattle.css_elements.specs.Rows.{Row};
     ghost use Rattle.simplecss_tree.specs.TreeNodes.{elements, element_tree};
 
     ghost Node = { List Row × ℕ };

@@ -6,13 +6,15 @@ ghost use Rattle.std.specs.Option.{option_eq};
 ghost use Rattle.simplecss.specs.Buckets.{Near, IsNear};
 ghost use Rattle.simplecss.specs.ListTrees.{spot, parent_by};
 ghost use Rattle.simplecss.specs.Matching.{AreMatches, most_tests};
-ghost use Rattle.simplecss.specs.OpenPaths.{open_for};
-ghost use Rattle.simplecss_tree.specs.Rows.{Row};
-ghost use Rattle.simplecss_tree.specs.TreeNodes.{element_tree, reported_at, named_parent};
+ghost use Rattle.simplecss.specs.OpenPaths.{tested_open};
+ghost use Rattle.css_elements.specs.Rows.{Row};
+ghost use Rattle.css_elements.specs.TreeNodes.{named_parent};
+ghost use Rattle.simplecss_tree.specs.TreeNodes.{element_tree, reported_at};
 ghost use Rattle.simplecss_tree.specs.Walks.{IsOpenAt, IsAlong};
-ghost use Rattle.simplecss_tree.specs.Ways.{LeadsTo, IsAbove};
+ghost use Rattle.css_elements.specs.Ways.{LeadsTo, IsAbove};
 
-use crate::{Tree, find_way};
+use crate::{Nodes, Tree};
+use css_elements::find_way;
 use simplecss::{HasSelector, OpenPath, RuleIndex, Tests};
 use std::alloc::{AllocError, Global};
 use std::marker::Model;
@@ -138,8 +140,9 @@ impl<'a> RuleWalk<'a> {
 
     /// Finds the indices of the rules that match the element at an index, in order. The rules are those
     /// that this was made of, and a walk is along one tree alone. The previous items of `indices` are
-    /// dropped. Only a rule is tested whose key is reported, and of which open elements report each key
-    /// that it needs of ancestors. Fails only if an allocation fails; then the walk is of no use.
+    /// dropped. The rules that are tested are those whose key is reported, of which open elements report
+    /// each key that they need of ancestors, and which require more than their key. Fails only if an
+    /// allocation fails; then the walk is of no use.
     pub fn matching<T: HasSelector<'a>>(
         &mut self,
         rules: &[T],
@@ -155,8 +158,9 @@ impl<'a> RuleWalk<'a> {
             self.old.selectors indices.new.items) }
         ensures tests { OnOk result ((near : Near)
             × IsNear element_tree (λ node. node) reported_at (spot tree.now element) near
+            × (tests.old + length (tested_open near self.new.path) ≤ tests.new)
             × (tests.new ≤ tests.old + sum_by (most_tests element_tree (spot tree.now element))
-            (open_for near self.new.path))) }
+            (tested_open near self.new.path))) }
         ensures along { OnOk result (IsAlong tree.now self.new) }
         ensures selectors { self.new.selectors ≡ self.old.selectors }
         ensures err { OnErr result (indices.new.items ≡ []) }

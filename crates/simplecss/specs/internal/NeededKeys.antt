@@ -6,7 +6,7 @@ use Rattle.simplecss_selector.specs.Keys.{Key}
 use Rattle.simplecss_selector.specs.KeyViews.{key_value}
 use Rattle.simplecss.specs.OpenPaths.{numbered, needed_keys}
 use Rattle.simplecss.specs.internal.LastByKey.{last_for}
-use Rattle.simplecss.specs.internal.OnlyKeys.{IsOnlyKey}
+use Rattle.simplecss.specs.OnlyKeys.{requires_only_key}
 use Rattle.simplecss.specs.internal.Chains.{selectors_of, AreChained}
 use Rattle.simplecss.specs.declared.index.last_by_key.LastByKey.{LastByKey}
 use Rattle.simplecss.specs.declared.index.last_by_bucket.LastByBucket.{LastByBucket}
@@ -40,12 +40,12 @@ pub record AreNeeded (needed : NeededKeys) (links : List Link) : Type 0 where
   pub have : All (λ link. AreNumbersOf (keys_of needed) link.needed.items
       (ancestor_keys link.selector.value)) links
 
--- of each link that says so the selector requires nothing but its key
+-- each link says whether its selector requires nothing but its key
 abbrev pub AreOnly : List Link → Type 0
-AreOnly links = All (λ link. IsTrue link.is_only_key → IsOnlyKey link.selector.value) links
+AreOnly links = All (λ link. link.is_only_key ≡ requires_only_key link.selector.value) links
 
--- the links of an index: they are in chains, have the numbers of the keys that they need, and say of
--- which selectors nothing but the key is required
+-- the links of an index: they are in chains, have the numbers of the keys that they need, and say
+-- which selectors require nothing but their key
 pub record AreIndexed (lasts : LastByBucket) (needed : NeededKeys) (links : List Link) : Type 0 where
   pub chained : AreChained lasts links
   pub numbered : AreNeeded needed links

@@ -1,10 +1,10 @@
 //! Which of the indices have a rule that matches.
-ghost use Rattle.std.specs.Prelude.{◌≡◌, ◌+◌, ◌<◌, ◌≤◌, ◌↔◌, ℕ, map, take, length, All, Contains, IsTrue, false};
+ghost use Rattle.std.specs.Prelude.{◌≡◌, ◌+◌, ◌<◌, ◌≤◌, ◌↔◌, ℕ, map, take, length, All, Contains, IsTrue, if◌then◌else◌};
 ghost use Rattle.std.specs.List.{sum_by};
 ghost use Rattle.std.specs.List.Sorted.{IsStrictlyIncreasing};
 ghost use Rattle.simplecss_selector.specs.Placements.{HasPlacement};
 ghost use Rattle.simplecss.specs.Matching.{most_tests};
-ghost use Rattle.simplecss.specs.internal.OnlyKeys.{IsKnown};
+ghost use Rattle.simplecss.specs.internal.OnlyKeys.{needs_no_test, unless_needless};
 ghost use Rattle.simplecss.specs.SelectorIndices.{selector_at};
 
 use super::rule_index::RuleIndex;
@@ -14,8 +14,7 @@ use simplecss_selector::{Element, Tests};
 /// Whether the search is exact, and the rule at this index requires nothing but its key.
 #[inline(always)]
 fn is_known(rule_index: &RuleIndex<'_>, is_exact: bool, index: usize) -> bool
-    ensures exact { IsTrue result → IsTrue is_exact }
-    ensures known { IsTrue result → IsKnown is_exact rule_index.now index }
+    ensures { result ≡ needs_no_test is_exact (selector_at rule_index.now index) }
 {
     is_exact && rule_index.is_only_key(index)
 }
@@ -32,15 +31,16 @@ fn is_match<'a, T: HasSelector<'a>, E: Element>(
         → HasPlacement E.tree (T.selector_in rule.now) (E.node element.now) }
     ensures answer { IsTrue result
         ↔ HasPlacement E.tree (T.selector_in rule.now) (E.node element.now) }
-    ensures at_least_one { is_known ≡ false → tests.old < tests.new }
-    ensures at_most { tests.new
-        ≤ tests.old + most_tests E.tree (E.node element.now) (T.selector_in rule.now) }
+    ensures at_least { tests.old + (if is_known then 0 else 1) ≤ tests.new }
+    ensures at_most { tests.new ≤ tests.old
+        + (if is_known then 0 else most_tests E.tree (E.node element.now) (T.selector_in rule.now)) }
 {
     is_known || rule.selector().matches_counted(element, tests)
 }
 
 /// Keeps the indices of the rules that match, in order, at the front, and returns how many they are.
-/// An exact search does not test the rules that require nothing but their key.
+/// An exact search does not test the rules that require nothing but their key, and each other one is
+/// tested.
 fn keep_matching<'a, T: HasSelector<'a>, E: Element>(
     rules: &[T],
     element: &E,
@@ -49,10 +49,11 @@ fn keep_matching<'a, T: HasSelector<'a>, E: Element>(
     indices: &mut [usize],
     tests: &mut Tests,
 ) -> usize
+    requires index { rule_index.now ≡ map T.selector_in rules.now }
     requires ascending { IsStrictlyIncreasing indices.old }
     requires within { All (λ index. index < length rules.now) indices.old }
     requires known { (index : ℕ) → Contains indices.old index
-        → IsKnown is_exact rule_index.now index
+        → IsTrue (needs_no_test is_exact (selector_at (map T.selector_in rules.now) index))
         → HasPlacement E.tree (selector_at (map T.selector_in rules.now) index)
         (E.node element.now) }
     ensures within { result ≤ length indices.new }
@@ -61,11 +62,10 @@ fn keep_matching<'a, T: HasSelector<'a>, E: Element>(
         ↔ (Contains indices.old index × HasPlacement E.tree
         (selector_at (map T.selector_in rules.now) index) (E.node element.now)) }
     ensures counted { tests.new ≤ tests.old + sum_by
-        (λ index. most_tests E.tree (E.node element.now)
+        (λ index. unless_needless is_exact (most_tests E.tree (E.node element.now))
         (selector_at (map T.selector_in rules.now) index)) indices.old }
-
-    // Each is tested at least once, unless the search is exact.
-    ensures tested { is_exact ≡ false → tests.old + length indices.old ≤ tests.new }
+    ensures tested { tests.old + sum_by (λ index. unless_needless is_exact (λ selector. 1)
+        (selector_at (map T.selector_in rules.now) index)) indices.old ≤ tests.new }
 {
     let mut kept = 0;
     'indices: for i in 0..indices.len() {
@@ -97,15 +97,17 @@ pub(crate) fn drop_others<'a, T: HasSelector<'a>, E: Element>(
     requires ascending { IsStrictlyIncreasing indices.old.items }
     requires within { All (λ index. index < length rule_index.now) indices.old.items }
     requires known { (index : ℕ) → Contains indices.old.items index
-        → IsKnown is_exact rule_index.now index
+        → IsTrue (needs_no_test is_exact (selector_at rule_index.now index))
         → HasPlacement E.tree (selector_at rule_index.now index) (E.node element.now) }
     ensures ascending { IsStrictlyIncreasing indices.new.items }
     ensures exactly { (index : ℕ) → Contains indices.new.items index
         ↔ (Contains indices.old.items index
         × HasPlacement E.tree (selector_at rule_index.now index) (E.node element.now)) }
-    ensures counted { tests.new ≤ tests.old + sum_by (λ index. most_tests E.tree
-        (E.node element.now) (selector_at rule_index.now index)) indices.old.items }
-    ensures tested { is_exact ≡ false → tests.old + length indices.old.items ≤ tests.new }
+    ensures counted { tests.new ≤ tests.old + sum_by (λ index. unless_needless is_exact
+        (most_tests E.tree (E.node element.now)) (selector_at rule_index.now index))
+        indices.old.items }
+    ensures tested { tests.old + sum_by (λ index. unless_needless is_exact (λ selector. 1)
+        (selector_at rule_index.now index)) indices.old.items ≤ tests.new }
 {
     let kept = keep_matching(rules, element, rule_index, is_exact, indices, tests);
     indices.truncate(kept);

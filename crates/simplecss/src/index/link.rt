@@ -1,8 +1,8 @@
 //! What an index keeps of a rule.
-ghost use Rattle.std.specs.Prelude.{◌≡◌, IsTrue};
+ghost use Rattle.std.specs.Prelude.{◌≡◌};
 ghost use Rattle.simplecss_selector.specs.Buckets.{bucket_of};
 ghost use Rattle.simplecss_selector.specs.BucketViews.{bucket_value};
-ghost use Rattle.simplecss.specs.internal.OnlyKeys.{IsOnlyKey};
+ghost use Rattle.simplecss.specs.OnlyKeys.{requires_only_key};
 
 use super::only_key::is_only_key;
 use simplecss_selector::{Bucket, Selector};
@@ -35,7 +35,7 @@ impl<'a> Link<'a> {
         ensures earlier { result.earlier ≡ earlier }
         ensures needed { result.needed ≡ needed }
         ensures selector { result.selector.value ≡ selector.now }
-        ensures only { IsTrue result.is_only_key → IsOnlyKey selector.now }
+        ensures only { result.is_only_key ≡ requires_only_key selector.now }
     {
         Link {
             earlier,

@@ -1,8 +1,8 @@
 //! Selectors that require nothing but their key.
-ghost use Rattle.std.specs.Prelude.{◌≡◌, IsTrue};
+ghost use Rattle.std.specs.Prelude.{◌≡◌};
 ghost use Rattle.simplecss_selector.specs.Buckets.{bucket_of};
 ghost use Rattle.simplecss_selector.specs.BucketViews.{bucket_value};
-ghost use Rattle.simplecss.specs.internal.OnlyKeys.{IsOnlyKey};
+ghost use Rattle.simplecss.specs.OnlyKeys.{requires_only_key};
 
 use simplecss_selector::{AttributeOperator, Bucket, Element, Key, PseudoClass, Selector};
 
@@ -68,7 +68,7 @@ impl<'a> Element for OnlyKey<'a> {
 /// must have. If so, it matches each element that has the key.
 pub(crate) fn is_only_key(selector: &Selector<'_>, bucket: Bucket<'_>) -> bool
     requires { bucket_value bucket ≡ bucket_of selector.now }
-    ensures { IsTrue result → IsOnlyKey selector.now }
+    ensures { result ≡ requires_only_key selector.now }
 {
     match bucket {
         Bucket::OfElement(key) => selector.matches(&OnlyKey { key }),

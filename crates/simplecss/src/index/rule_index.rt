@@ -7,8 +7,8 @@ ghost use Rattle.simplecss_selector.specs.Exact.{ReportsOnlyKeys};
 ghost use Rattle.simplecss_selector.specs.Buckets.{Near, IsNear};
 ghost use Rattle.simplecss.specs.internal.Chains.{selectors_of, IsLastBefore, AreChained};
 ghost use Rattle.simplecss.specs.internal.NeededKeys.{AreNeeded, AreOnly};
-ghost use Rattle.simplecss.specs.internal.OnlyKeys.{IsOnlyKey};
-ghost use Rattle.simplecss.specs.OpenPaths.{needed_keys, are_open, open_for, IsOpenTo};
+ghost use Rattle.simplecss.specs.OnlyKeys.{requires_only_key};
+ghost use Rattle.simplecss.specs.OpenPaths.{needed_keys, are_open, tested_open, IsOpenTo};
 ghost use Rattle.simplecss.specs.internal.Kept.{is_kept};
 ghost use Rattle.simplecss.specs.SelectorIndices.{key_at, selector_at};
 ghost use Rattle.simplecss.specs.Matching.{AreMatches, most_tests, tested_for};
@@ -154,7 +154,7 @@ impl<'a> RuleIndex<'a> {
     /// Whether the rule at this index requires nothing but its key.
     #[inline(always)]
     pub(crate) fn is_only_key(&self, index: usize) -> bool
-        ensures { IsTrue result → IsOnlyKey (selector_at self.now index) }
+        ensures { result ≡ requires_only_key (selector_at self.now index) }
     {
         match self.links.get(index) {
             Some(link) => link.is_only_key,
@@ -221,9 +221,9 @@ impl<'a> RuleIndex<'a> {
     }
 
     /// Does what [`RuleIndex::matching_counted`] does for an element that reports no more than it
-    /// matches, and whose ancestors are the open elements of a path. A rule is tested only if its key is
-    /// reported, and if open elements report each key that it needs of ancestors. One that requires
-    /// nothing but its key is not tested.
+    /// matches, and whose ancestors are the open elements of a path. The rules that are tested are
+    /// those whose key is reported, of which open elements report each key that they need of ancestors,
+    /// and which require more than their key.
     pub fn matching_exact<T: HasSelector<'a>, E: Exact>(
         &self,
         rules: &[T],
@@ -240,8 +240,9 @@ impl<'a> RuleIndex<'a> {
             (AreMatches E.tree (E.node element.now) self.now indices.new.items) }
         ensures tests { OnOk result ((near : Near)
             × IsNear E.tree E.node E.reported element.now near
+            × (tests.old + length (tested_open near path.now) ≤ tests.new)
             × (tests.new ≤ tests.old + sum_by (most_tests E.tree (E.node element.now))
-            (open_for near path.now))) }
+            (tested_open near path.now))) }
         ensures err { OnErr result (indices.new.items ≡ []) }
         ensures untested { OnErr result (tests.new ≡ tests.old) }
     {

@@ -1,10 +1,11 @@
-use Rattle.std.proofs.Common.{◌≡◌, ◌+◌, ◌<◌, ◌≤◌, ◌↔◌, ℕ, List, length, map, take, ap, sym, ◌∙◌, subst, refl}
+use Rattle.std.proofs.Common.{◌≡◌, ◌+◌, ◌<◌, ◌≤◌, ◌↔◌, ℕ, List, length, map, take, IsTrue, ap, sym, ◌∙◌, subst, refl}
 use Rattle.std.specs.List.{All, Contains, sum_by}
 use Rattle.std.specs.List.Sorted.{IsStrictlyIncreasing}
 use Rattle.std.proofs.lemmas.List.{length-map}
 use Rattle.simplecss_grammar.specs.Components.{Component}
 use Rattle.simplecss_selector.specs.Placements.{HasPlacement}
 use Rattle.simplecss.specs.Matching.{most_tests}
+use Rattle.simplecss.specs.internal.OnlyKeys.{needs_no_test, unless_needless}
 use Rattle.simplecss.specs.SelectorIndices.{selector_at}
 use Rattle.simplecss.proofs.Keeping.{written_back}
 use Rattle.simplecss.proofs.index.keep.drop_others.Goals.{After-truncate}
@@ -17,14 +18,19 @@ keep_matching-kept-requires g c =
     λ k. (
       (refl, tt),
       (
-        subst IsStrictlyIncreasing (sym c.deref_mut.ensures.value) c.requires.ascending,
+        c.requires.index,
         (
-          rw c.deref_mut.ensures.value
-              (subst (λ n. All (λ index. index < n) c.args.indices.now.items) same c.requires.within),
-          λ index there known. subst (λ ss. HasPlacement g.E.Element.tree (selector_at ss index)
-              (g.E.Element.node c.args.element.now)) c.requires.index
-              (c.requires.known index (subst (λ xs. Contains xs index) c.deref_mut.ensures.value there)
-              known),
+          subst IsStrictlyIncreasing (sym c.deref_mut.ensures.value) c.requires.ascending,
+          (
+            rw c.deref_mut.ensures.value
+                (subst (λ n. All (λ index. index < n) c.args.indices.now.items) same c.requires.within),
+            subst (λ ss. (index : ℕ) → Contains c.deref_mut.result.now index
+                → IsTrue (needs_no_test c.args.is_exact (selector_at ss index))
+                → HasPlacement g.E.Element.tree (selector_at ss index)
+                (g.E.Element.node c.args.element.now)) c.requires.index
+                (λ index there. c.requires.known index
+                (subst (λ xs. Contains xs index) c.deref_mut.ensures.value there)),
+          ),
         ),
       ),
     )
@@ -59,8 +65,8 @@ returns-clause-exactly g c =
 
 pub returns-clause-counted : goal.returns-clause-counted
 returns-clause-counted g c =
-    let most : List (List Component) → ℕ → ℕ = λ ss index. most_tests g.E.Element.tree (g.E.Element.node c.args.element.now)
-    (selector_at ss index) in
+    let most : List (List Component) → ℕ → ℕ = λ ss index. unless_needless c.args.is_exact
+    (most_tests g.E.Element.tree (g.E.Element.node c.args.element.now)) (selector_at ss index) in
     subst (λ ss. c.keep_matching-kept.new.tests ≤ c.args.tests.now
     + sum_by (most ss) c.args.indices.now.items) (sym c.requires.index)
     (subst (λ ps. c.keep_matching-kept.new.tests ≤ c.args.tests.now
@@ -68,6 +74,11 @@ returns-clause-counted g c =
     c.deref_mut.ensures.value c.keep_matching-kept.ensures.counted)
 
 pub returns-clause-tested : goal.returns-clause-tested
-returns-clause-tested g c plain =
-    subst (λ ps. c.args.tests.now + length ps ≤ c.keep_matching-kept.new.tests)
-    c.deref_mut.ensures.value (c.keep_matching-kept.ensures.tested plain)
+returns-clause-tested g c =
+    let least : List (List Component) → ℕ → ℕ =
+    λ ss index. unless_needless c.args.is_exact (λ selector. 1) (selector_at ss index) in
+    subst (λ ss. c.args.tests.now + sum_by (least ss) c.args.indices.now.items
+    ≤ c.keep_matching-kept.new.tests) (sym c.requires.index)
+    (subst (λ ps. c.args.tests.now
+    + sum_by (least (map g.T.HasSelector.selector_in c.args.rules.now)) ps
+    ≤ c.keep_matching-kept.new.tests) c.deref_mut.ensures.value c.keep_matching-kept.ensures.tested)

@@ -1,5 +1,5 @@
 use Rattle.std.proofs.Common.{sym, ◌∙◌}
-use Rattle.simplecss_tree.proofs.Walking.{still_above, closer, same_place}
+use Rattle.css_elements.proofs.Walking.{still_above, closer, same_place}
 use Rattle.simplecss_tree.proofs.rule_walk.Opened.close_to.Goals as goal
 
 pub closes-preserved : goal.closes-preserved

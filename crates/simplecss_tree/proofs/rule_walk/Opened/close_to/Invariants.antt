@@ -1,7 +1,7 @@
 use Rattle.std.proofs.Common.{◌≡◌}
 use Rattle.simplecss_tree.specs.Walks.{IsOpenAt}
-use Rattle.simplecss_tree.specs.Ways.{IsAbove}
-use Rattle.simplecss_tree.proofs.Walking.{past}
+use Rattle.css_elements.specs.Ways.{IsAbove}
+use Rattle.css_elements.proofs.Walking.{past}
 use Rattle.simplecss_tree.proofs.rule_walk.Opened.close_to.Given as goal
 
 -- the walk is open, and not yet above the place

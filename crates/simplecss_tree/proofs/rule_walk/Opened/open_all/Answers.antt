@@ -1,6 +1,7 @@
 use Rattle.std.proofs.Common.{length, sym, ◌∙◌, subst, arith}
 use Rattle.simplecss_tree.specs.Walks.{IsOpenAt}
-use Rattle.simplecss_tree.proofs.Walking.{leads_pop, none_left, node_is, node_there, open_above, entered, same_end}
+use Rattle.css_elements.proofs.Walking.{leads_pop, none_left, node_is, node_there, same_end}
+use Rattle.simplecss_tree.proofs.Walking.{open_above, entered}
 use Rattle.simplecss_tree.proofs.rule_walk.Opened.open_all.Goals as goal
 
 pub unwrap-node-requires : goal.unwrap-node-requires

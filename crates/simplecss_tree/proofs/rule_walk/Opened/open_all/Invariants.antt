@@ -1,6 +1,6 @@
 use Rattle.std.proofs.Common.{◌≡◌, length, reverse}
 use Rattle.simplecss_tree.specs.Walks.{IsOpenAt}
-use Rattle.simplecss_tree.specs.Ways.{LeadsTo}
+use Rattle.css_elements.specs.Ways.{LeadsTo}
 use Rattle.simplecss_tree.proofs.rule_walk.Opened.open_all.Given as goal
 
 -- the path is open, and the elements that are left lead to the element

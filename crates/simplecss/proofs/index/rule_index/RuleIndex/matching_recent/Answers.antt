@@ -1,7 +1,8 @@
 use Rattle.std.proofs.Common.{◌+◌, ◌≤◌, length, subst, refl}
+use Rattle.std.proofs.lemmas.Bool.{false≢true}
 use Rattle.simplecss_selector.proofs.BucketLemmas.{near_reports}
 use Rattle.simplecss.specs.Matching.{is_tested, most_tests}
-use Rattle.simplecss.proofs.Candidates.{are_matches, indices_within, sum_of_tested, number_tested}
+use Rattle.simplecss.proofs.Candidates.{are_matches, indices_within, sum_of_tested, number_tested, ones}
 use Rattle.simplecss.proofs.index.rule_index.RuleIndex.matching_recent.Goals as goal
 
 pub drop_others-requires : goal.drop_others-requires
@@ -14,7 +15,7 @@ drop_others-requires g c = λ k. (
       (
         indices_within _ (length c.args.self.now) c.candidates.new.indices.items
             c.in_default.ensures.found.2,
-        λ index there known. absurd known,
+        λ index there known. absurd (false≢true known),
       ),
     ),
   ),
@@ -39,7 +40,8 @@ returns-clause-tests g c =
       found.1,
       subst (λ n. c.args.tests.now + n ≤ c.drop_others.new.tests)
           (number_tested (is_tested found.0) c.args.self.now candidates found.2)
-          (c.drop_others.ensures.tested refl),
+          (subst (λ n. c.args.tests.now + n ≤ c.drop_others.new.tests) (ones candidates)
+          c.drop_others.ensures.tested),
       subst (λ n. c.drop_others.new.tests ≤ c.args.tests.now + n)
           (sum_of_tested (is_tested found.0) c.args.self.now candidates most found.2)
           c.drop_others.ensures.counted,

@@ -1,3 +1,0 @@
--- What is written whatever the formatter's options: the lemma of the crates below.
--- Serves Display of the errors of a tree (under every formatter).
-pub use Rattle.simplecss.proofs.StyledWrites.{plain_of_styled}
