@@ -36,7 +36,8 @@
  * Bytes of `out` after the answer are unchanged, and an answer has no zero byte at its end. A retry
  * repeats all the work, so start with a buffer that is probably large enough.
  *
- * A call keeps nothing: any thread may call at any time, with an `out`, `len` and `fault` of its own;
+ * A call keeps nothing but in a handle: any thread may call at any time, with an `out`, `len` and `fault` of its
+ * own, and with a handle that no other call has meanwhile;
  * threads may share what they pass for reading. The library allocates by malloc, realloc and free, and
  * a call leaves nothing allocated. Do not call it from a signal handler. `out`, `len` and `fault` must
  * not overlap each other or anything that is passed for reading.
@@ -74,6 +75,7 @@ extern "C" {
 #define SIMPLECSS_NOT_UTF8 5u      /* a text is not UTF-8, or the strings of a tree are not */
 #define SIMPLECSS_TOO_SMALL 6u     /* the answer is longer than the buffer */
 #define SIMPLECSS_TOO_MANY_LAYERS 7u /* style sheets name more than 1,024 layers where their group rules hold */
+#define SIMPLECSS_CLOSED 8u        /* the handle has no object */
 
 /* A limit that allows any number of declarations, or of bytes. */
 #define SIMPLECSS_NO_LIMIT SIZE_MAX
@@ -135,8 +137,8 @@ typedef struct simplecss_tree {
 } simplecss_tree;
 
 /* The grammars of selectors. Modern ones are Level 3, and of Level 4 `:is()`, `:where()`, `:not()` with a list,
- * `:lang()` with a list, `:dir(ltr)`, `:dir(rtl)`, `:any-link`, and the flags `i` and `s`. Reading takes time that
- * grows as the text.
+ * `:has()`, `:nth-child(.. of S)`, `:lang()` with a list, `:dir(ltr)`, `:dir(rtl)`, `:any-link`, and the flags `i` and
+ * `s`. Reading takes time that grows as the text.
  *
  * Three of the numbers read modern selectors: they say how a document compares names (HTML Standard,
  * "Case-sensitivity of selectors"). The tree of an HTML document has in lower case what is compared without
@@ -170,7 +172,29 @@ typedef struct simplecss_device {
     uint32_t hover;          /* not 0: its pointer can hover */
     uint32_t dark;           /* not 0: its user prefers dark colours */
     uint32_t reduced_motion; /* not 0: its user prefers less motion */
+    uint32_t device_width;   /* its own in pixels: 0 for `width`, which is that of a page */
+    uint32_t device_height;  /* its own in pixels: 0 for `height` */
+    uint32_t color;          /* how many bits each of its colours has */
+    uint32_t color_index;    /* how many colours its table of colours has: 0 without one */
+    uint32_t monochrome;     /* how many bits a dot has, if it shows one colour: else 0 */
+    uint32_t gamut;          /* the colours that it shows, such as SIMPLECSS_SRGB */
+    uint32_t high_range;     /* not 0: its range of brightness is high */
+    uint32_t grid;           /* not 0: it shows characters in a grid */
+    uint32_t update;         /* how fast what it shows can change, such as SIMPLECSS_FAST */
+    uint32_t scripting;      /* whether scripts run, such as SIMPLECSS_SCRIPTS */
+    uint32_t display;        /* how a web application is shown, such as SIMPLECSS_BROWSER */
+    uint32_t reduced_transparency; /* not 0: its user prefers less transparency */
+    uint32_t contrast;       /* that its user prefers, such as SIMPLECSS_USUAL_CONTRAST */
+    uint32_t forced_colors;  /* not 0: its user has chosen a few colours, and no others are shown */
+    uint32_t any_hover;      /* not 0: another of its pointers can hover */
+    uint32_t any_coarse;     /* not 0: another of its pointers is coarse */
+    uint32_t any_fine;       /* not 0: another of its pointers is fine */
 } simplecss_device;
+
+/* A screen of 1,280 x 800 pixels with a mouse: `simplecss_device device = SIMPLECSS_DESKTOP;`. */
+#define SIMPLECSS_DESKTOP {1280, 800, 1000, SIMPLECSS_SCREEN, SIMPLECSS_FINE, 1, 0, 0, 0, 0, 8, 0, 0, \
+    SIMPLECSS_SRGB, 0, 0, SIMPLECSS_FAST, SIMPLECSS_SCRIPTS, SIMPLECSS_BROWSER, 0, SIMPLECSS_USUAL_CONTRAST, \
+    0, 0, 0, 0}
 
 /* The types of devices. */
 #define SIMPLECSS_SCREEN 0u
@@ -181,6 +205,36 @@ typedef struct simplecss_device {
 #define SIMPLECSS_NO_POINTER 0u
 #define SIMPLECSS_COARSE 1u /* a finger */
 #define SIMPLECSS_FINE 2u   /* a mouse */
+
+/* The colours that devices show, each with those before it. */
+#define SIMPLECSS_SRGB 0u
+#define SIMPLECSS_P3 1u
+#define SIMPLECSS_REC2020 2u
+
+/* How fast what devices show can change. */
+#define SIMPLECSS_NEVER 0u /* paper */
+#define SIMPLECSS_SLOW 1u  /* electronic paper */
+#define SIMPLECSS_FAST 2u  /* a screen */
+
+/* Whether scripts run. */
+#define SIMPLECSS_NO_SCRIPTS 0u
+#define SIMPLECSS_INITIAL_SCRIPTS 1u /* while a page is loaded */
+#define SIMPLECSS_SCRIPTS 2u
+
+/* How web applications are shown. */
+#define SIMPLECSS_BROWSER 0u
+#define SIMPLECSS_MINIMAL_UI 1u
+#define SIMPLECSS_STANDALONE 2u
+#define SIMPLECSS_FULLSCREEN 3u
+#define SIMPLECSS_WINDOW_CONTROLS_OVERLAY 4u
+#define SIMPLECSS_PICTURE_IN_PICTURE 5u
+#define SIMPLECSS_TABBED 6u
+
+/* The contrast that users prefer. */
+#define SIMPLECSS_USUAL_CONTRAST 0u
+#define SIMPLECSS_MORE_CONTRAST 1u
+#define SIMPLECSS_LESS_CONTRAST 2u
+#define SIMPLECSS_CUSTOM_CONTRAST 3u /* colours of the user's choice, neither more nor less */
 
 /* A fault of a tree: the first fault of its first faulty element, in the order of these numbers
  * but for the name, which is tested after the strings. Set at SIMPLECSS_TREE_FAULT only. Elements are
@@ -193,21 +247,34 @@ typedef struct simplecss_tree_fault {
 /* Writes the version of the library, such as "0.2.0". */
 uint32_t simplecss_version(uint8_t *out, size_t out_size, size_t *len);
 
-/* Writes ten numbers of each selector of a list with commas between them: nine as simplecss_read writes of a
- * selector, with offsets into the list, and the length of what simplecss_printed writes of it:
- *   start len  is_read ids classes types  element name is_any  printed_len
- * Of the port, offsets and lengths but for the last are 0. Refused if one of them is not a selector. `out_size` and
- * `*len` count numbers. */
-uint32_t simplecss_list(const uint8_t *text, size_t text_len, size_t grammar,
-                        size_t *out, size_t out_size, size_t *len);
+/* The handle of a list of selectors that the library keeps. Set it to zero, {0}, before its first call. It may be
+ * moved, and is then asked where it is. Never copy it and use both, and never write its field. A question to a handle
+ * without a list answers SIMPLECSS_CLOSED. A question leaves the list as it is, at any status. */
+typedef struct simplecss_kept_list {
+    void *at;
+} simplecss_kept_list;
 
-/* Writes the selectors of a list one after another, each printed as CSSOM serializes it. All else is as in
- * simplecss_list. */
-uint32_t simplecss_printed(const uint8_t *text, size_t text_len, size_t grammar,
-                           uint8_t *out, size_t out_size, size_t *len);
+/* Keeps a copy of a text and the selectors of the list that it is, so that the text need not be passed again. What the
+ * handle had before is let go. Refused if one of them is not a selector; simplecss_refusal writes why. At any status
+ * but SIMPLECSS_DONE the handle has no list, and nothing is allocated. */
+uint32_t simplecss_list_new(const uint8_t *text, size_t text_len, size_t grammar,
+                            simplecss_kept_list *out);
+
+/* Writes ten numbers of each selector of a list: nine as simplecss_read writes of a selector, with offsets into the
+ * list, and the length of what simplecss_list_text writes of it:
+ *   start len  is_read ids classes types  element name is_any  printed_len
+ * Of the port, offsets and lengths but for the last are 0. `out_size` and `*len` count numbers. The time grows as the
+ * text. */
+uint32_t simplecss_list_numbers(simplecss_kept_list *list, size_t *out, size_t out_size, size_t *len);
+
+/* Writes the selectors of a list one after another, each printed as CSSOM serializes it. */
+uint32_t simplecss_list_text(simplecss_kept_list *list, uint8_t *out, size_t out_size, size_t *len);
+
+/* Lets a list go. Does nothing where the handle has none, as after a first call. */
+void simplecss_list_free(simplecss_kept_list *list);
 
 /* Writes the row, the column and the reason of the first error of a list of selectors, with a space between them, or
- * nothing where it has none: "1 4 `>` begins no selector", of `.a >> b`. Rows and columns begin at 1, and columns
+ * nothing where it has none: "1 5 `>` begins no selector", of `.a >> b`. Rows and columns begin at 1, and columns
  * count characters. Modern lists are read with the names that the tree declares, as simplecss_select reads them. For
  * the port the tree is not read. */
 uint32_t simplecss_refusal(const uint8_t *text, size_t text_len, size_t grammar,
@@ -222,8 +289,9 @@ uint32_t simplecss_refusal(const uint8_t *text, size_t text_len, size_t grammar,
  *
  * A modern selector with a pseudo-element matches nothing. `:nth-child()` and the like count the roots of a tree as
  * siblings, too; `:root` matches each of them. A tree of 2^32 elements or more is reported as out of memory. The list of
- * each `:has()`, and of each `:nth-child()` that has one, is tested once on each element. These tests are at most `most`,
- * too: elements times lists, with one for each list and one for each of its selectors. */
+ * each `:has()`, and of each `:nth-child()` that has one, is tested once on each element, and those after the first
+ * `:has()` once more for what is inside of one. These tests, counted once, are at most `most`, too: elements times
+ * lists, with one for each list and one for each of its selectors. */
 
 /* Writes a line for each element of a tree: its number, a colon, the number of each of the selectors that
  * matches it after a space, and a newline. Each text is a selector. Elements and selectors are numbered from 1.
@@ -239,6 +307,34 @@ uint32_t simplecss_match_selectors(const uint8_t *texts, size_t texts_len,
 uint32_t simplecss_select(const uint8_t *selectors, size_t selectors_len, size_t grammar,
                           const simplecss_tree *tree, size_t most,
                           uint8_t *out, size_t out_size, size_t *len, simplecss_tree_fault *fault);
+
+/* The handle of a page that the library keeps: a copy of a tree, made ready to be asked. It is used as the handle of a
+ * list is: set to zero at first, moved but never copied, and its field never written. A question to a handle without a
+ * page answers SIMPLECSS_CLOSED, and a question leaves the page as it is, at any status. */
+typedef struct simplecss_kept_page {
+    void *at;
+} simplecss_kept_page;
+
+/* Keeps a copy of a tree, reads it and counts its siblings, so that the tree need not be passed again. What the handle
+ * had before is let go. `grammar` is SIMPLECSS_MODERN, SIMPLECSS_HTML or SIMPLECSS_HTML_QUIRKS; another one is refused.
+ * At any status but SIMPLECSS_DONE the handle has no page, and nothing is allocated. */
+uint32_t simplecss_page_new(const simplecss_tree *tree, size_t grammar, simplecss_kept_page *out,
+                            simplecss_tree_fault *fault);
+
+/* Writes the numbers, from 1 and in document order, of the elements that one of the selectors of a list matches, of
+ * those whose indices, from 0, are `from` and more, and less than `to`; there may be fewer elements than `to`. The list
+ * is read with the names that the tree declares, as simplecss_select reads it. `scope` is the number of the element
+ * that `:scope` matches, or 0: then `:scope` matches the root. SIMPLECSS_SCOPE in the states of an element means nothing
+ * here. `out_size` and `*len` count numbers; more than `most` are SIMPLECSS_TOO_LONG.
+ *
+ * The time grows as the list, as the elements of the range with their tests, and as the ancestors of the first of them,
+ * and not as the page: but for `:has()`, `:nth-child(.. of S)` and `&`, whose lists are tested on each element of the
+ * page, and whose tests are at most `most`, too, as for simplecss_select. */
+uint32_t simplecss_page_select(simplecss_kept_page *page, const uint8_t *selectors, size_t selectors_len, size_t scope,
+                               size_t from, size_t to, size_t most, size_t *out, size_t out_size, size_t *len);
+
+/* Lets a page go. Does nothing where the handle has none, as after a first call. */
+void simplecss_page_free(simplecss_kept_page *page);
 
 /* Writes numbers of each statement of a style sheet by the modern grammar (CSS Syntax Module Level 3). Offsets and
  * lengths are in bytes, and the former into the text. Each statement has ten numbers, which are by its kind
@@ -295,9 +391,119 @@ uint32_t simplecss_imports(const uint8_t *text, size_t text_len,
 uint32_t simplecss_contents(const uint8_t *text, size_t text_len,
                             size_t *out, size_t out_size, size_t *len);
 
+/* What `simplecss_html` is asked for, added up: that scripts run, so that what is in a `noscript` is text; and that what is
+ * in templates is left out. */
+#define SIMPLECSS_HTML_SCRIPTS 1
+#define SIMPLECSS_HTML_NO_TEMPLATES 2
+
+/* Reads a page in HTML, as browsers do, or the content of an element: with a `space` of 1, 2 or 3 that of an element of
+ * HTML, SVG or MathML whose start tag without its `<` and `>` is `context`; with 0 a whole page. A mark of the order of
+ * bytes at the front is no part of it. Writes numbers to `out`, and to `strings`, a buffer of `strings_size` bytes, the
+ * texts that some of them are of. The numbers are:
+ *
+ *   how many start tags there are, and of each, in order, the offsets where it begins and ends;
+ *   how many attributes, elements, other nodes and merged tags there are; 1 in quirks mode, or 0; 1 where browsers may
+ *   read the page in different ways, or 0; the offset, and 1, where the head ends, so that what is put there is in it, or
+ *   0 without a head;
+ *   of each start tag how many attributes it has;
+ *   five of each attribute: the offsets where its name begins and ends, where its value begins and ends, without quotes,
+ *   and where it ends itself;
+ *   six of each element, in document order: the number of its start tag and of its parent, from 1, or 0 for none; how
+ *   many ancestors it has; its namespace, as `space`; and the offsets where its end tag begins and ends, which are equal
+ *   where it ends without one;
+ *   five of each other node: its kind, 1 for a text, 2 for a CDATA section, 3 for a comment, 4 for a document type; how
+ *   many elements begin before it; the number of its parent, or 0; and the offsets where it begins and ends;
+ *   two of each merged tag, whose attributes an element has besides its own: the element's number, or 0 if it is left out,
+ *   and the tag's, from 1;
+ *   where each string ends in `strings`: a name and a value of each attribute, a name of each element, and what each other
+ *   node says, of a comment and a document type nothing.
+ *
+ * Of attributes of one name the first counts, of the element's own tag before those of merged ones. Names are in lower
+ * case but for those with capitals in SVG and MathML, and values and texts are without references. Several elements may
+ * have one start tag. Each start tag is one that the HTML Standard's tokenizer reads of the page, one after another.
+ *
+ * At SIMPLECSS_TOO_SMALL both lengths are those that the answer needs, at any other status but SIMPLECSS_DONE both are 0,
+ * and `out` is unchanged. A page whose elements are nested in a way that takes time or elements out of proportion, about
+ * 100 steps for each eight bytes, answers SIMPLECSS_TOO_LONG. Time and memory grow as the text within that. `out_size` and
+ * `*len` count numbers. */
+uint32_t simplecss_html(const uint8_t *text, size_t text_len, size_t space,
+                        const uint8_t *context, size_t context_len, size_t flags,
+                        size_t *out, size_t out_size, size_t *len,
+                        uint8_t *strings, size_t strings_size, size_t *strings_len);
+
+/* Writes what says in which encoding a page is, a tab and the encoding's name, as of the Encoding Standard: "mark" for a mark of
+ * the order of bytes at its front, "label" for the label that comes with it, as from a server, "meta" or "declaration" for a
+ * `meta` or an XML declaration in its first 1,024 bytes, or "default", which is windows-1252. The page and the label are any
+ * bytes; an empty label, or one of no encoding, does not count. */
+uint32_t simplecss_html_encoding(const uint8_t *text, size_t text_len, const uint8_t *label, size_t label_len,
+                                 uint8_t *out, size_t out_size, size_t *len);
+
+/* A policy: what is allowed of style sheets and style attributes from people whom nobody knows. `texts` has the scope, and
+ * then the names of all lists, one after another. The scope is the selector under which all selectors of a sheet are put: one
+ * compound of names, ids and classes, such as `.mail`. Names are in lower case, and match names in any case. */
+typedef struct simplecss_policy {
+    const uint8_t *texts;
+    size_t texts_len;
+    const size_t *ends;
+    size_t ends_count;
+    size_t properties; /* how many of the names are of properties; they are after the scope */
+    size_t functions;  /* how many are of functions of values; they are next, and so on */
+    size_t strings;    /* how many are of properties of which values may have strings */
+    size_t pseudos;    /* how many are of pseudo-classes and pseudo-elements; all after these are words of media queries */
+    size_t important;  /* whether declarations may be important: any number but 0 */
+    size_t itself;     /* whether rules may be for the elements that the scope matches, too: any number but 0 */
+    size_t longest;    /* the most bytes of a text: a longer one is dropped whole */
+} simplecss_policy;
+
+/* What `simplecss_clean` is asked for. `simplecss_dropped` takes the first two. */
+#define SIMPLECSS_CLEAN_SHEET 0u
+#define SIMPLECSS_CLEAN_STYLE 1u    /* the text is a style attribute */
+#define SIMPLECSS_IS_CLEAN_SHEET 2u
+#define SIMPLECSS_IS_CLEAN_STYLE 3u
+#define SIMPLECSS_MAIL_POLICY 4u    /* the lists of the policy for the bodies of mails */
+#define SIMPLECSS_COMMENT_POLICY 5u /* those of the policy for comments */
+
+/* Writes what a policy allows of a style sheet or a style attribute, in its order (CLEAN.md). Of a style attribute it
+ * is the declarations that are allowed. It has no control character, no angle bracket, brace, backslash or `@`; escape `&` and
+ * quotes where it becomes an attribute. Of a sheet it is rules whose selectors are the scope, a space or ` > `, and a
+ * selector that was there, and `@media` rules with such rules; it has no `<`, and leaves nothing open. `html`, `body`,
+ * `:root` and `:host` at the front of a selector mean the scope. With nothing after them they are dropped, unless the
+ * policy has `itself`. With SIMPLECSS_IS_CLEAN_SHEET
+ * and SIMPLECSS_IS_CLEAN_STYLE writes `true` or `false`: whether the text is one that the policy allows, as it is. With
+ * SIMPLECSS_MAIL_POLICY and SIMPLECSS_COMMENT_POLICY the text and the policy are not read, and lines are written: `properties`,
+ * `functions`, `strings`, `pseudos`, `media` and `reasons`, each with its names, and `important`, `itself` and `longest` with
+ * a number, with spaces between them. The names of reasons are in the order of their numbers, from 0.
+ *
+ * Refused if ends are not those of texts, if there are fewer texts than are counted, for a sheet if the scope is no such
+ * compound, and if `asked` is another number. Time grows as the text times the names of a list. */
+uint32_t simplecss_clean(const uint8_t *text, size_t text_len, const simplecss_policy *policy, size_t asked,
+                         uint8_t *out, size_t out_size, size_t *len);
+
+/* Writes three numbers of each piece of a text that a policy drops: the offsets of its first byte and after its last one, and
+ * the number of the reason. `form` is SIMPLECSS_CLEAN_SHEET or SIMPLECSS_CLEAN_STYLE. Refused as by simplecss_clean.
+ * `out_size` and `*len` count numbers. */
+uint32_t simplecss_dropped(const uint8_t *text, size_t text_len, const simplecss_policy *policy, size_t form,
+                           size_t *out, size_t out_size, size_t *len);
+
 /* The layouts of a printed style sheet. */
 #define SIMPLECSS_SHORT 0u
 #define SIMPLECSS_LINES 1u
+
+/* What `simplecss_lint` is asked for, added up: what is valid and unsupported, too; that the text is a style attribute;
+ * what the kinds are, in place of the mistakes of the text; and whether properties take values. */
+#define SIMPLECSS_LINT_ALL 1
+#define SIMPLECSS_LINT_ATTRIBUTE 2
+#define SIMPLECSS_LINT_KINDS 4
+#define SIMPLECSS_LINT_VALUES 8
+
+/* Writes a line for each mistake in a style sheet or a style attribute: its kind in words, the offsets of its first byte and
+ * after its last one, and what was probably meant, or nothing; and if one answer is right, also the offsets between which
+ * it is written, and the answer; with tabs between them. With SIMPLECSS_LINT_KINDS a line for each kind: its words, what
+ * it means, "error", "warning" or "note", a sheet with it alone, and the sheet without it, in which `\n` is a newline. With
+ * SIMPLECSS_LINT_VALUES the text is lines of a property, a colon and a value without `!important`, and of each a line is
+ * written: "valid" if the standards and browsers take the value, "invalid" if none of them does, or else "unknown". */
+uint32_t simplecss_lint(const uint8_t *text, size_t text_len, size_t asked,
+                        uint8_t *out, size_t out_size, size_t *len);
 
 /* Writes a style sheet, printed: without comments, and without blanks, semicolons and rules that say nothing. With
  * `layout` SIMPLECSS_SHORT it has no more bytes than are needed, with SIMPLECSS_LINES a line for each declaration and
@@ -332,10 +538,11 @@ uint32_t simplecss_print(const uint8_t *text, size_t text_len, size_t layout,
 uint32_t simplecss_close(const uint8_t *value, size_t value_len,
                          uint8_t *out, size_t out_size, size_t *len);
 
-/* Writes what a list of media queries says on a device (Media Queries 4): `true`, `false` or `unknown`. It
- * holds if that is `true`. Known are the types, `width`, `height`, `resolution`, `orientation`,
- * `prefers-color-scheme`, `prefers-reduced-motion`, `hover`, `any-hover`, `pointer` and `any-pointer`. Refused
- * if the device's type or pointer is another number. */
+/* Writes what a list of media queries says on a device (Media Queries 4 and 5): `true`, `false` or `unknown`. It
+ * holds if that is `true`. Known are the types, and the features of which `simplecss_device` has a field, with
+ * `aspect-ratio`, `device-aspect-ratio`, `orientation`, `overflow-block`, `overflow-inline`, `device-posture`,
+ * `-webkit-transform-3d` and `-webkit-device-pixel-ratio`, also with `min-` and `max-` where the standards have
+ * these. Values may be a `calc()`. Refused if a number of the device is none of those above. */
 uint32_t simplecss_media(const uint8_t *text, size_t text_len, const simplecss_device *device,
                          uint8_t *out, size_t out_size, size_t *len);
 
@@ -376,6 +583,12 @@ uint32_t simplecss_longhands(const uint8_t *name, size_t name_len,
 /* Writes the shorthands that set a longhand, whose name is in lower case, each with a newline after it. */
 uint32_t simplecss_shorthands(const uint8_t *name, size_t name_len,
                               uint8_t *out, size_t out_size, size_t *len);
+
+/* Writes the other name of a longhand that has a logical and a physical one (CSS Logical Properties 1), where text is
+ * horizontal, from left to right: of `margin-block-start` it is `margin-top`, and the other way round. Both set the same,
+ * and the cascade decides between them. The name is in lower case. Any other name is refused. */
+uint32_t simplecss_counterpart(const uint8_t *name, size_t name_len,
+                               uint8_t *out, size_t out_size, size_t *len);
 
 /* Writes whether a property is inherited, as `true` or `false`: one of CSS 2.1, of SVG or of a browser, whose name is
  * in lower case, or a custom property. */
@@ -470,8 +683,8 @@ uint32_t simplecss_rule_texts(const simplecss_sheets *sheets, size_t limit, size
 /* Writes for each element of a tree how many declarations win on it, of the sheets and of its own, and then two numbers
  * for each: where it is, and how many declarations are before it there. It is in the rule of this index among those of
  * simplecss_rules, from 0; in the `style` attribute if the number is that of all rules; and one more says that it is a
- * presentation declaration. They are in the order of the rules, then presentation declarations, then those of the
- * attribute. One wins for each property: names are compared in any case, but for those of custom properties;
+ * presentation declaration. They are in the order of the cascade, the strongest last, so that each is to be applied
+ * after those before it. One wins for each property: names are compared in any case, but for those of custom properties;
  * shorthands are not expanded. Important declarations win, of an earlier origin over those of a later one, and in an
  * earlier layer over those in a later one; of others those of a later origin and in a later layer; then the greater
  * specificity decides, and then the order. Presentation declarations are of an origin between the user's and the
@@ -479,14 +692,16 @@ uint32_t simplecss_rule_texts(const simplecss_sheets *sheets, size_t limit, size
  * that wins for a property is `revert` or `revert-layer` (CSS Cascading 5, section 7.3), it is rolled back: what is of
  * its origin, or in its layer, and what is after that do not count for the property. An attribute is a layer after all
  * others, and in it an important `revert-layer` leaves important declarations of rules, as in browsers; `revert` of
- * the user agent wins as it is; if nothing is left, nothing wins. A rule with a
- * pseudo-element applies to no element. `grammar` is one of modern selectors; the port is refused. `most`, `out_size`
- * and `*len` count numbers. For each element the time grows as the declarations of all rules that match it, of which
- * `limit` is the most, and of its own; as n log n of these where one is rolled back.
+ * the user agent wins as it is, and so does one with nothing before it, in an earlier origin or layer, of whichever
+ * property: it undoes what those before it in the order set. Else, if nothing is left, nothing wins. A rule with a
+ * pseudo-element applies to no element, and a declaration with an invalid `var()` (CSS Custom Properties 1, section 3)
+ * is none. `grammar` is one of modern selectors; the port is refused. `most`, `out_size` and `*len` count numbers. For
+ * each element the time grows as the declarations of all rules that match it, of which `limit` is the most, and of its
+ * own; as n log n of those that win, or of all where one is rolled back.
  *
  * Each list of selectors of a style rule with rules in it, of `:has()` and of `:nth-child()` is tested once on each
- * element. These tests are at most `most`, too: elements times lists, with one for each list and one for each of its
- * selectors. */
+ * element, and those after the first `:has()` once more for what is inside of one. These tests, counted once, are at
+ * most `most`, too: elements times lists, with one for each list and one for each of its selectors. */
 uint32_t simplecss_winners(const simplecss_sheets *sheets, size_t grammar, size_t limit,
                            const simplecss_tree *tree, const simplecss_own *own, size_t most,
                            size_t *out, size_t out_size, size_t *len, simplecss_tree_fault *fault);

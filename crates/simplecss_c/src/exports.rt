@@ -6,40 +6,39 @@
 //! 6 nothing was written, and `len` is the length that the call needs. At any other status nothing was
 //! written, and `len` is 0. `fault` is set at 2 only.
 
-ghost use Rattle.simplecss_calls.specs.Answers.{IsAnswered, IsAnsweredOfTree, IsHandedOver};
-ghost use Rattle.simplecss_calls.specs.Calls.{IsSelectorCall, IsSheetCall, IsPrinted, IsMatchCall};
-ghost use Rattle.simplecss_calls.specs.Calls.{AreRuleTexts, IsSkippedCall, IsStyleCall, IsStylesCall};
-ghost use Rattle.simplecss_calls.specs.Calls.{IsCloseCall, passed_of};
-ghost use Rattle.simplecss_calls.specs.ContentNumbers.{IsContentsCall};
-ghost use Rattle.simplecss_calls.specs.Conditions.{IsMediaCall, IsSupportsCall};
-ghost use Rattle.simplecss_calls.specs.ImportLines.{IsImportsCall};
-ghost use Rattle.simplecss_calls.specs.ItemNumbers.{IsDeclarationsCall};
-ghost use Rattle.simplecss_calls.specs.NumberLines.{IsTokensCall, IsNamesCall};
-ghost use Rattle.simplecss_calls.specs.PrintedSheets.{IsPrintCall};
-ghost use Rattle.simplecss_calls.specs.SheetNumbers.{IsReadCall};
+ghost use Rattle.call_answers.specs.Answers.{IsAnswered, IsAnsweredOfTree, IsHandedOver};
+ghost use Rattle.call_answers.specs.Calls.{IsSelectorCall, IsSheetCall, IsPrinted, IsMatchCall};
+ghost use Rattle.call_answers.specs.Calls.{AreRuleTexts, IsSkippedCall, IsStyleCall, IsStylesCall};
+ghost use Rattle.call_answers.specs.Calls.{IsCloseCall, passed_of};
+ghost use Rattle.sheet_calls.specs.ContentNumbers.{IsContentsCall};
+ghost use Rattle.sheet_calls.specs.Conditions.{IsMediaCall, IsSupportsCall};
+ghost use Rattle.sheet_calls.specs.ImportLines.{IsImportsCall};
+ghost use Rattle.call_answers.specs.ItemNumbers.{IsDeclarationsCall};
+ghost use Rattle.sheet_calls.specs.NumberLines.{IsTokensCall, IsNamesCall};
+ghost use Rattle.sheet_calls.specs.Linting.{IsLintCall};
+ghost use Rattle.sheet_calls.specs.PrintedSheets.{IsPrintCall};
+ghost use Rattle.call_answers.specs.SheetNumbers.{IsReadCall};
 ghost use Rattle.simplecss_calls.specs.WinnerNumbers.{IsRulesCall, IsNumbersCall, sheets_of};
 ghost use Rattle.simplecss_calls.specs.declared.contents.ElementContent.TheVariants.{Winners, Named, Matches};
 ghost use Rattle.simplecss_calls.specs.RuleTexts.{IsRuleTextsCall};
-ghost use Rattle.simplecss_calls.specs.Spellings.{IsDecodeCall, IsEscapeCall, IsQuoteCall};
-ghost use Rattle.simplecss_calls.specs.Values.{IsInheritedCall, IsLonghandsCall, IsResolveCall};
-ghost use Rattle.simplecss_calls.specs.Values.{IsShorthandsCall, IsValidCall};
+ghost use Rattle.sheet_calls.specs.Spellings.{IsDecodeCall, IsEscapeCall, IsQuoteCall};
+ghost use Rattle.sheet_calls.specs.Values.{IsInheritedCall, IsLonghandsCall, IsResolveCall};
+ghost use Rattle.sheet_calls.specs.Values.{IsShorthandsCall, IsValidCall};
 ghost use Rattle.simplecss_calls.specs.Grammars.{grammar_of};
-ghost use Rattle.simplecss_calls.specs.GrammarCalls.{IsListCall, IsPrintedCall, IsRefusalCall};
-ghost use Rattle.simplecss_calls.specs.GrammarCalls.{IsMatchSelectorsCall, IsSelectCall};
+ghost use Rattle.simplecss_calls.specs.GrammarCalls.{IsMatchSelectorsCall, IsRefusalCall, IsSelectCall};
 
-use css_values::{INHERITED, SHORTHANDS};
-use simplecss_calls::answer::{
+use call_answers::answer::{
     TreeFault, copy_whole, hand_over, hand_over_numbers, hand_over_numbers_of_tree,
     hand_over_of_tree, hand_over_truth,
 };
-use simplecss_calls::conditions::DeviceNumbers;
+use call_answers::elements::PassedTree;
+use css_values::{INHERITED, LOGICAL, SHORTHANDS};
+use port_calls::port;
+use sheet_calls::conditions::DeviceNumbers;
+use sheet_calls::{conditions, imports, lint, printing, sheet_contents, spellings, tokens, values};
 use simplecss_calls::contents::{AskedNames, ElementContent, OwnTexts};
-use simplecss_calls::elements::PassedTree;
 use simplecss_calls::winners::Sheets;
-use simplecss_calls::{
-    calls, conditions, element_numbers, imports, port, printing, rule_texts, sheet_contents,
-    spellings, tokens, values, winners,
-};
+use simplecss_calls::{calls, element_numbers, rule_texts, winners};
 use std::alloc::Global;
 
 /// The version of the library. The changelog begins with it.
@@ -51,35 +50,6 @@ pub extern "C" fn simplecss_version(out: &mut [u8], len: &mut usize) -> u32
     ensures { IsHandedOver VERSION.now result out.old out.new len.new }
 {
     copy_whole(VERSION.as_bytes(), out, len)
-}
-
-/// Writes ten numbers of each selector of a list with commas between them: nine of where it is, of its
-/// specificity and of its pseudo-element, and the length of its printed text.
-#[unsafe(no_mangle)]
-pub extern "C" fn simplecss_list(
-    alloc: Global,
-    text: &[u8],
-    grammar: usize,
-    out: &mut [usize],
-    len: &mut usize,
-) -> u32
-    ensures { IsAnswered (IsListCall (grammar_of grammar) text.now) result out.old out.new len.new }
-{
-    hand_over_numbers(calls::list(alloc, text, grammar), out, len)
-}
-
-/// Writes the printed texts of the selectors of a list, one after another.
-#[unsafe(no_mangle)]
-pub extern "C" fn simplecss_printed(
-    alloc: Global,
-    text: &[u8],
-    grammar: usize,
-    out: &mut [u8],
-    len: &mut usize,
-) -> u32
-    ensures { IsAnswered (IsPrintedCall (grammar_of grammar) text.now) result out.old out.new len.new }
-{
-    hand_over(calls::printed(alloc, text, grammar), out, len)
 }
 
 /// Writes the row, the column and the reason of why a text is no list of selectors, with a space between
@@ -198,6 +168,22 @@ pub extern "C" fn simplecss_contents(
     ensures { IsAnswered (IsContentsCall text.now) result out.old out.new len.new }
 {
     hand_over_numbers(sheet_contents::sheet_contents(alloc, text), out, len)
+}
+
+/// Writes a line of each mistake in a style sheet, or in a style attribute if `asked` has 2 in it; if it has 1 in it, of what is
+/// unsupported, too. A line has the kind, the offsets of the first byte and after the last one, and what was probably
+/// meant; and if one answer is right, the offsets between which it is written, and the answer; with tabs between them.
+#[unsafe(no_mangle)]
+pub extern "C" fn simplecss_lint(
+    alloc: Global,
+    text: &[u8],
+    asked: usize,
+    out: &mut [u8],
+    len: &mut usize,
+) -> u32
+    ensures { IsAnswered (IsLintCall text.now) result out.old out.new len.new }
+{
+    hand_over(lint::lint(alloc, text, asked), out, len)
 }
 
 /// Writes a style sheet, printed: without comments, and with no more bytes than are needed or with a line for each
@@ -498,6 +484,20 @@ pub extern "C" fn simplecss_shorthands(
     ensures { IsAnswered (IsShorthandsCall SHORTHANDS.now name.now) result out.old out.new len.new }
 {
     hand_over(values::shorthands(alloc, name), out, len)
+}
+
+/// Writes the other name of a longhand that has a logical and a physical one, where text is horizontal, from left
+/// to right. Another name is refused.
+#[unsafe(no_mangle)]
+pub extern "C" fn simplecss_counterpart(
+    alloc: Global,
+    name: &[u8],
+    out: &mut [u8],
+    len: &mut usize,
+) -> u32
+    ensures { IsAnswered (IsLonghandsCall LOGICAL.now name.now) result out.old out.new len.new }
+{
+    hand_over(values::counterpart(alloc, name), out, len)
 }
 
 /// Writes `true` if a property is inherited, else `false`.

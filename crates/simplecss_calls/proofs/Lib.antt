@@ -1,25 +1,3 @@
-pub mod TextCuts
-pub mod Limits
-pub mod StringCuts
-pub mod RepeatedKeys
-pub mod Building
-pub mod PageCalls
-pub mod ListFacts
-pub mod LineTexts
-pub mod PortSteps
-pub mod PortVectors
-pub mod SelectorTexts
-pub mod PlacedNumbers
-pub mod PageLines
-pub mod ModernPages
-pub mod ModernLists
-pub mod MarkCalls
-pub mod ModernCalls
-pub mod Utf8Tests
 pub mod WinnerSteps
 pub mod WinnerCalls
-pub mod ValueCalls
 pub mod OwnTexts
-pub mod ImportSteps
-pub mod ImportVectors
-mod SpacedAttributes

@@ -15,21 +15,22 @@ use Rattle.css_sheet.specs.declared.sheet_rules.GroupRule.{GroupRule}
 use Rattle.css_sheet.specs.declared.sheet_rules.Sheet.{Sheet}
 use Rattle.css_sheet.specs.declared.sheet_error.SheetError.TheVariants as sheet
 use Rattle.css_tree.specs.Pages.{Page}
-use Rattle.simplecss_tree.specs.Rows.{Row}
-use Rattle.simplecss_calls.specs.declared.answer.CallError.{CallError}
-use Rattle.simplecss_calls.specs.declared.answer.CallError.TheVariants.{Refused, Tree, Memory, TooManyDeclarations, NotUtf8, AnswerTooLong, TooManyLayers}
+use Rattle.css_elements.specs.Rows.{Row}
+use Rattle.call_answers.specs.declared.answer.CallError.{CallError}
+use Rattle.call_answers.specs.declared.answer.CallError.TheVariants.{Refused, Tree, Memory, TooManyDeclarations, NotUtf8, AnswerTooLong, TooManyLayers}
 use Rattle.simplecss_calls.specs.declared.contents.ElementContent.{ElementContent}
-use Rattle.simplecss_calls.specs.declared.elements.ElementFault.{ElementFault}
-use Rattle.simplecss_calls.specs.declared.modern.document_kind.DocumentKind.{DocumentKind}
-use Rattle.simplecss_calls.specs.Calls.{FailsFor, FailsLonger, FailsWithin, HasBadEnds, HasTexts, IsBrokenUtf8, Passed, passed_tree, passed_states, passed_spaced}
-use Rattle.simplecss_calls.specs.MarkedPages.{AreOnMarked}
-use Rattle.simplecss_calls.specs.ModernLines.{page_with}
+use Rattle.call_answers.specs.declared.elements.ElementFault.{ElementFault}
+use Rattle.page_calls.specs.declared.modern.document_kind.DocumentKind.{DocumentKind}
+use Rattle.call_answers.specs.Calls.{FailsFor, FailsLonger, FailsWithin, HasBadEnds, HasTexts, IsBrokenUtf8, Passed, passed_tree, passed_states, passed_spaced}
+use Rattle.page_calls.specs.MarkedPages.{AreOnMarked}
+use Rattle.page_calls.specs.ModernLines.{page_with}
 use Rattle.std.specs.declared.string.String.{String}
-use Rattle.simplecss_calls.specs.Outcomes.{numbers_outcome, outcome_of}
+use Rattle.call_answers.specs.Outcomes.{numbers_outcome, outcome_of}
 use Rattle.simplecss_calls.specs.RuleTexts.{rule_texts, AreLongerTexts, IsRuleTextsCall}
-use Rattle.simplecss_calls.specs.Readings.{selector_as}
-use Rattle.simplecss_calls.specs.WinnerNumbers.{ContentText, PassedSheets, AreSheets, FailsBeside, HasBadBeside, IsBrokenBeside, group_rule_at, sheets_with, AreAskedOnTree, AreBeyond, AreRules, AreNumbers, HasBadContent, IsBrokenContent, IsContent, IsModernNumbersCall, held_declarations, held_layers, unread}
-use Rattle.simplecss_calls.proofs.Limits.{fails_within, within_wider, longer_wider}
+use Rattle.page_calls.specs.Readings.{selector_as}
+use Rattle.simplecss_calls.specs.WinnerNumbers.{ContentText, PassedSheets, AreSheets, FailsBeside, HasBadBeside, IsBrokenBeside, group_rule_at, sheets_with, AreAskedOnTree, AreBeyond, AreRules, AreNumbers, HasBadContent, IsBrokenContent, IsContent, IsModernNumbersCall, held_declarations, held_layers}
+use Rattle.call_answers.specs.Failures.{unread}
+use Rattle.call_answers.proofs.Limits.{fails_within, within_wider, longer_wider}
 
 -- a failure that is handed on
 pub numbers-failed : {Z : Type 0} (Is : Result (List ℕ) CallError → Type 0)

@@ -1,24 +1,12 @@
 -- What each call must write that reads selectors by a grammar, and when it fails. Without a grammar it
 -- is refused.
 use Rattle.std.specs.Prelude.{◌≡◌, ℕ, List, Option, None, Some, Result, Err}
-use Rattle.simplecss_calls.specs.declared.answer.CallError.{CallError}
-use Rattle.simplecss_calls.specs.declared.answer.CallError.TheVariants.{Refused}
+use Rattle.call_answers.specs.declared.answer.CallError.{CallError}
+use Rattle.call_answers.specs.declared.answer.CallError.TheVariants.{Refused}
 use Rattle.simplecss_calls.specs.declared.grammar.Grammar.{Grammar}
 use Rattle.simplecss_calls.specs.declared.grammar.Grammar.TheVariants.{Modern, Port}
-use Rattle.simplecss_calls.specs.Calls.{Passed, IsPortListCall, IsPortPrintedCall, IsPortRefusalCall, IsPortMatchSelectorsCall, IsPortSelectCall}
-use Rattle.simplecss_calls.specs.ModernCalls.{IsModernListCall, IsModernPrintedCall, IsModernRefusalCall, IsModernMatchCall, IsModernSelectCall}
-
--- the numbers of each selector of the list, or why there are none
-abbrev pub IsListCall : Option Grammar → List ℕ → Result (List ℕ) CallError → Type 0
-IsListCall None text outcome = outcome ≡ Err Refused
-IsListCall (Some (Modern reading)) text outcome = IsModernListCall text outcome
-IsListCall (Some Port) text outcome = IsPortListCall text outcome
-
--- the printed texts of the selectors of the list, or why there are none
-abbrev pub IsPrintedCall : Option Grammar → List ℕ → Result (List ℕ) CallError → Type 0
-IsPrintedCall None text outcome = outcome ≡ Err Refused
-IsPrintedCall (Some (Modern reading)) text outcome = IsModernPrintedCall text outcome
-IsPrintedCall (Some Port) text outcome = IsPortPrintedCall text outcome
+use Rattle.call_answers.specs.Calls.{Passed, IsPortRefusalCall, IsPortMatchSelectorsCall, IsPortSelectCall}
+use Rattle.page_calls.specs.ModernCalls.{IsModernRefusalCall, IsModernMatchCall, IsModernSelectCall}
 
 -- where the text is no list of selectors, and why, or nothing where it is one, where a tree declares names for
 -- modern selectors

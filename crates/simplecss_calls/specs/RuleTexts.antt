@@ -3,7 +3,7 @@ use Rattle.std.specs.Prelude.{◌≡◌, ◌<◌, ◌≤◌, ℕ, List, length, 
 use Rattle.std.specs.List.{flat_map}
 use Rattle.css_selectors.specs.MarkedLists.{ListText}
 use Rattle.css_sheet.specs.SheetOrder.{SheetRuleText}
-use Rattle.simplecss_calls.specs.declared.answer.CallError.{CallError}
+use Rattle.call_answers.specs.declared.answer.CallError.{CallError}
 use Rattle.simplecss_calls.specs.WinnerNumbers.{PassedSheets, AreRules, FailsBeside}
 
 -- the texts of the selectors of rules, one after another

@@ -6,11 +6,10 @@ use Rattle.css_matching.specs.ListTrees.{spot}
 use Rattle.css_syntax.specs.Contents.{declaration_value}
 use Rattle.css_syntax.specs.DeclarationLists.{DeclarationText, ItemText, declared, at_rule_item, skipped_item}
 use Rattle.css_syntax.specs.Placed.{PlacedItem, placed_items}
-use Rattle.css_selectors.specs.Components.{Selector}
+use Rattle.css_selector_text.specs.Components.{Selector}
 use Rattle.css_selectors.specs.MarkedLists.{ListText}
-use Rattle.css_selectors.specs.Meanings.{Matches}
 use Rattle.css_selectors.specs.Numberings.{NumberingText}
-use Rattle.css_selectors.specs.Specificities.{Counts}
+use Rattle.css_selector_text.specs.Specificities.{Counts}
 use Rattle.css_cascade.specs.Layers.{most_layers}
 use Rattle.css_cascade.specs.declared.weights.Origin.{Origin}
 use Rattle.css_cascade.specs.declared.weights.Origin.TheVariants as origins
@@ -20,28 +19,26 @@ use Rattle.css_sheet.specs.SheetOrder.{SheetRuleText, cascade_rules, nested_list
 use Rattle.css_sheet.specs.Sheets.{GroupRuleText, SheetText}
 use Rattle.css_styles.specs.Contenders.{OwnText, contenders}
 use Rattle.css_styles.specs.NumberedRules.{numbered_sheets}
-use Rattle.css_styles.specs.Winners.{WinnerText, AreWinners, Decides, winners}
+use Rattle.css_styles.specs.Winners.{WinnerText, AreWinners, winners}
 use Rattle.css_styles.specs.declared.winner.Source.{Source}
 use Rattle.css_styles.specs.declared.winner.Source.TheVariants as sources
 use Rattle.css_tree.specs.Pages.{Page, page_document}
-use Rattle.simplecss_tree.specs.Rows.{Row}
-use Rattle.simplecss_calls.specs.declared.answer.CallError.{CallError}
-use Rattle.simplecss_calls.specs.declared.answer.CallError.TheVariants.{Refused, Memory, TooManyDeclarations, TooManyLayers}
+use Rattle.css_elements.specs.Rows.{Row}
+use Rattle.call_answers.specs.declared.answer.CallError.{CallError}
+use Rattle.call_answers.specs.declared.answer.CallError.TheVariants.{Refused, TooManyLayers}
 use Rattle.simplecss_calls.specs.declared.contents.ElementContent.{ElementContent}
 use Rattle.simplecss_calls.specs.declared.contents.ElementContent.TheVariants as contents
-use Rattle.simplecss_calls.specs.declared.elements.ElementFault.{ElementFault}
+use Rattle.call_answers.specs.declared.elements.ElementFault.{ElementFault}
 use Rattle.simplecss_calls.specs.declared.winners.Sheets.{Sheets}
-use Rattle.css_sheet.specs.declared.sheet_error.SheetError.{SheetError}
-use Rattle.css_sheet.specs.declared.sheet_error.SheetError.TheVariants as sheet
 use Rattle.simplecss_calls.specs.declared.grammar.Grammar.{Grammar}
 use Rattle.simplecss_calls.specs.declared.grammar.Grammar.TheVariants.{Modern, Port}
-use Rattle.simplecss_calls.specs.declared.modern.document_kind.DocumentKind.{DocumentKind}
-use Rattle.simplecss_calls.specs.AnswerLines.{AreLinesWithin}
-use Rattle.simplecss_calls.specs.Calls.{FailsWithin, HasTexts, HasBadEnds, IsBrokenUtf8, Passed, passed_tree, passed_states, passed_spaced}
-use Rattle.simplecss_calls.specs.MarkedPages.{AreOnMarked}
-use Rattle.simplecss_calls.specs.ModernLines.{page_with}
-use Rattle.simplecss_calls.specs.Numbers.{number_if, offset}
-use Rattle.simplecss_calls.specs.Readings.{selector_as}
+use Rattle.page_calls.specs.declared.modern.document_kind.DocumentKind.{DocumentKind}
+use Rattle.call_answers.specs.AnswerLines.{AreLinesWithin}
+use Rattle.call_answers.specs.Calls.{FailsWithin, HasTexts, HasBadEnds, IsBrokenUtf8, Passed, passed_tree, passed_states, passed_spaced}
+use Rattle.page_calls.specs.MarkedPages.{AreOnMarked}
+use Rattle.page_calls.specs.ModernLines.{page_with}
+use Rattle.call_answers.specs.Numbers.{number_if, offset}
+use Rattle.page_calls.specs.Readings.{selector_as}
 
 -- ---- group rules
 
@@ -158,19 +155,21 @@ abbrev pub groups_in : (counts : List ℕ) → (names : List (List ℕ)) → Lis
 groups_in [] names = []
 groups_in (count ∷ counts) names = take count names ∷ groups_in counts (drop count names)
 
+-- the selectors of rules, where a document reads selectors in this way
+abbrev pub selectors_read : (Selector → Selector) → List SheetRuleText → List Selector
+selectors_read read rules = map (λ (rule : SheetRuleText). read rule.selector) rules
+
 -- The numbers of what wins on the element at an index that has these declarations of its own, of these
 -- properties if some are asked for, where a document reads selectors in this way.
 abbrev pub IsWon : Option (List (List (List ℕ))) → OwnText → (Selector → Selector)
     → List SheetRuleText → Page → ℕ → List ℕ → Type 0
 IsWon None own read rules page index numbers =
-    (matches : Selector → Bool)
-    → Decides matches (λ s. Matches page_document (read s) (spot page index))
-    → numbers ≡ winners_numbers (length rules) (winners matches rules own)
+    (indices : List ℕ) × AreMatches page_document (spot page index) (selectors_read read rules) indices
+    × (numbers ≡ winners_numbers (length rules) (winners rules indices own))
 IsWon (Some asked) own read rules page index numbers =
-    (matches : Selector → Bool)
-    → Decides matches (λ s. Matches page_document (read s) (spot page index))
-    → (found : List (Option WinnerText))
-    × AreWinners (contenders matches rules own) asked found
+    (indices : List ℕ) × AreMatches page_document (spot page index) (selectors_read read rules) indices
+    × (found : List (Option WinnerText))
+    × AreWinners (contenders rules indices own) asked found
     × (numbers ≡ flat_map (option_numbers (length rules)) found)
 
 -- the same, where there are two texts for each element
@@ -200,8 +199,7 @@ AreMatchedBy most selectors page =
 -- those of the rules, where a document reads selectors in this way
 abbrev pub AreMatched : (most : ℕ) → (Selector → Selector) → List SheetRuleText → Page
     → Option (List ℕ) → Type 0
-AreMatched most read rules =
-    AreMatchedBy most (map (λ (rule : SheetRuleText). read rule.selector) rules)
+AreMatched most read rules = AreMatchedBy most (selectors_read read rules)
 
 -- what is written of each element: what wins, of these properties or of each, with these declarations of
 -- elements; or what matches
@@ -306,12 +304,6 @@ sheets_with origins depths rules namespaces (text ∷ texts) =
     }
     ∷ sheets_with (later_numbers origins) (later_numbers depths) (drop (first_number depths) rules)
     namespaces texts
-
--- the failure of a call whose sheets are not read
-abbrev pub unread : SheetError → CallError
-unread sheet.TooManyDeclarations = TooManyDeclarations
-unread sheet.TooManyLayers = TooManyLayers
-unread sheet.Memory = Memory
 
 -- these are the texts
 pub record HasSheets (passed : PassedSheets) (texts groups namespaces : List (List ℕ)) : Type 0 where

@@ -1,43 +1,24 @@
 //! What each call answers that the grammars share, and the others that read modern CSS.
 
 ghost use Rattle.std.specs.Prelude.{◌≡◌};
-ghost use Rattle.simplecss_calls.specs.Outcomes.{numbers_outcome, outcome_of};
-ghost use Rattle.simplecss_calls.specs.Calls.{IsCloseCall, passed_of};
-ghost use Rattle.simplecss_calls.specs.ItemNumbers.{IsDeclarationsCall};
-ghost use Rattle.simplecss_calls.specs.SheetNumbers.{IsReadCall};
+ghost use Rattle.call_answers.specs.Outcomes.{numbers_outcome, outcome_of};
+ghost use Rattle.call_answers.specs.Calls.{IsCloseCall, passed_of};
+ghost use Rattle.call_answers.specs.ItemNumbers.{IsDeclarationsCall};
+ghost use Rattle.call_answers.specs.SheetNumbers.{IsReadCall};
 ghost use Rattle.simplecss_calls.specs.Grammars.{grammar_of};
-ghost use Rattle.simplecss_calls.specs.GrammarCalls.{IsListCall, IsPrintedCall, IsRefusalCall};
+ghost use Rattle.simplecss_calls.specs.GrammarCalls.{IsRefusalCall};
 ghost use Rattle.simplecss_calls.specs.GrammarCalls.{IsMatchSelectorsCall, IsSelectCall};
 
-use crate::answer::CallError;
-use crate::elements::PassedTree;
 use crate::grammar::Grammar;
-use crate::items::item_numbers;
-use crate::sheets::sheet_numbers;
-use crate::texts::text_of;
-use crate::{modern, port};
+use call_answers::answer::CallError;
+use call_answers::elements::PassedTree;
+use call_answers::items::item_numbers;
+use call_answers::texts::text_of;
 use css_syntax::closed_value;
+use page_calls::modern;
+use port_calls::port;
+use sheet_calls::sheets::sheet_numbers;
 use std::alloc::Global;
-
-/// The numbers of the selectors of a list.
-pub fn list(alloc: Global, text: &[u8], grammar: usize) -> Result<Vec<usize>, CallError>
-    ensures { IsListCall (grammar_of grammar) text.now (numbers_outcome result) }
-{
-    match Grammar::from_number(grammar)? {
-        Grammar::Modern(_) => modern::list(alloc, text),
-        Grammar::Port => port::list(alloc, text),
-    }
-}
-
-/// The printed texts of the selectors of a list, one after another.
-pub fn printed(alloc: Global, text: &[u8], grammar: usize) -> Result<String, CallError>
-    ensures { IsPrintedCall (grammar_of grammar) text.now (outcome_of result) }
-{
-    match Grammar::from_number(grammar)? {
-        Grammar::Modern(_) => modern::printed(alloc, text),
-        Grammar::Port => port::printed(alloc, text),
-    }
-}
 
 /// Where a text is no list of selectors, and why, or nothing where it is one, where a tree declares names.
 pub fn refusal(

@@ -2,14 +2,14 @@
 
 ghost use Rattle.std.specs.Prelude.{◌≡◌, IfOk, MatchResult, map, take, drop};
 ghost use Rattle.css_styles.specs.StyleViews.{names_of, own_of};
-ghost use Rattle.simplecss_calls.specs.Calls.{FailsFor};
+ghost use Rattle.call_answers.specs.Calls.{FailsFor};
 ghost use Rattle.simplecss_calls.specs.WinnerNumbers.{IsContent, HasBadContent, IsBrokenContent, groups_in};
 ghost use Rattle.simplecss_calls.specs.WinnerNumbers.{own_at as own_at_of, text_at as text_at_of};
 ghost use Rattle.simplecss_calls.specs.internal.Contents.{asked_in, content_of};
 ghost use Rattle.simplecss_calls.specs.declared.contents.ElementContent.TheVariants as passed;
 
-use crate::answer::CallError;
-use crate::texts::texts_of;
+use call_answers::answer::CallError;
+use call_answers::texts::texts_of;
 use css_styles::Own;
 use std::alloc::{AllocError, Global};
 

@@ -1,24 +1,24 @@
 //! The numbers of the elements of a tree: what wins on each, or which rules match it.
 
 ghost use Rattle.std.specs.Prelude.{None, Some, MatchResult};
-ghost use Rattle.simplecss_calls.specs.Calls.{FailsLonger, passed_of};
+ghost use Rattle.call_answers.specs.Calls.{FailsLonger, passed_of};
 ghost use Rattle.simplecss_calls.specs.Grammars.{grammar_of};
-ghost use Rattle.simplecss_calls.specs.MarkedPages.{AreOnMarked};
-ghost use Rattle.simplecss_calls.specs.Outcomes.{numbers_outcome};
-ghost use Rattle.simplecss_calls.specs.Readings.{selector_as};
+ghost use Rattle.page_calls.specs.MarkedPages.{AreOnMarked};
+ghost use Rattle.call_answers.specs.Outcomes.{numbers_outcome};
+ghost use Rattle.page_calls.specs.Readings.{selector_as};
 ghost use Rattle.simplecss_calls.specs.internal.Contents.{content_of};
 ghost use Rattle.simplecss_calls.specs.WinnerNumbers.{AreNumbers, IsModernNumbersCall, IsNumbersCall, sheets_of};
 
-use crate::answer::CallError;
 use crate::contents::{Content, ElementContent, read_content};
-use crate::elements::{PassedTree, read_named_tree};
 use crate::grammar::Grammar;
-use crate::marks::mark;
 use crate::matches::page_matches;
-use crate::modern::{DocumentKind, page_of};
 use crate::winners::{Sheets, page_winners, read_rules};
+use call_answers::answer::CallError;
+use call_answers::elements::{PassedTree, read_named_tree};
 use css_styles::StyleRules;
 use css_tree::NumberedTree;
+use page_calls::marks::mark;
+use page_calls::modern::{DocumentKind, page_of};
 use std::alloc::Global;
 
 /// The numbers of each element of a page, where a document reads selectors in this way.

@@ -1,38 +1,15 @@
-//! The calls of the C library, with slices in place of pointers: each returns what the library hands to its caller, or
-//! why there is no answer.
+//! The calls of the C library that choose a grammar, and those on what wins, with slices in place of pointers: each
+//! returns what the library hands to its caller, or why there is no answer.
 //!
-//! `simplecss_c` exports them. `answer` writes an answer to a caller's buffer and returns the status.
+//! `simplecss_c` exports them, with those of `port_calls` and `sheet_calls`.
 #![tactic(auto)]
 
-pub mod answer;
 mod around;
-mod attributes;
 pub mod calls;
-pub mod conditions;
 pub mod contents;
 pub mod element_numbers;
-pub mod elements;
-mod grammar;
+pub mod grammar;
 mod held;
-pub mod imports;
-mod items;
-mod lists;
-mod marks;
 mod matches;
-mod modern;
-mod named_states;
-mod pages;
-pub mod port;
-mod port_texts;
-pub mod printing;
-mod refusals;
 pub mod rule_texts;
-mod selector_numbers;
-pub mod sheet_contents;
-mod sheets;
-pub mod spellings;
-mod texts;
-pub mod tokens;
-mod tree_names;
-pub mod values;
 pub mod winners;

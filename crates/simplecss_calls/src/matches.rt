@@ -3,15 +3,15 @@
 ghost use Rattle.std.specs.Prelude.{◌≡◌, ◌<◌, ◌++◌, OnOk, MatchResult, ℕ, List, None, Some, length, map};
 ghost use Rattle.css_sheet.specs.SheetRuleViews.{sheet_rule_of};
 ghost use Rattle.css_tree.specs.Walks.{IsOpenAt};
-ghost use Rattle.simplecss_calls.specs.Calls.{FailsLonger};
-ghost use Rattle.simplecss_calls.specs.Readings.{selector_as};
+ghost use Rattle.call_answers.specs.Calls.{FailsLonger};
+ghost use Rattle.page_calls.specs.Readings.{selector_as};
 ghost use Rattle.simplecss_calls.specs.WinnerNumbers.{AreMatched, AreMatchedBy, IsMatchedBy};
 
-use crate::answer::{CallError, check_count};
-use crate::modern::{DocumentKind, html_rule_selectors};
+use call_answers::answer::{CallError, check_count};
 use css_selectors::Tests;
 use css_sheet::SheetRule;
 use css_tree::{NumberedTree, TreeWalk};
+use page_calls::modern::{DocumentKind, html_rule_selectors};
 use std::alloc::{AllocError, Global};
 
 /// Appends how many rules match the element at an index, and the index of each, by a walk. What was in

@@ -2,13 +2,13 @@
 
 ghost use Rattle.std.specs.Prelude.{◌≡◌, ◌≤◌, ◌<◌, MatchResult, length, map, string_bytes};
 ghost use Rattle.css_sheet.specs.SheetRuleViews.{sheet_rule_of};
-ghost use Rattle.simplecss_calls.specs.Calls.{FailsLonger};
-ghost use Rattle.simplecss_calls.specs.Outcomes.{outcome_of};
+ghost use Rattle.call_answers.specs.Calls.{FailsLonger};
+ghost use Rattle.call_answers.specs.Outcomes.{outcome_of};
 ghost use Rattle.simplecss_calls.specs.WinnerNumbers.{sheets_of};
 ghost use Rattle.simplecss_calls.specs.RuleTexts.{rule_texts as rule_texts_of, IsRuleTextsCall};
 
-use crate::answer::{CallError, check_length};
 use crate::winners::{Sheets, read_rules};
+use call_answers::answer::{CallError, check_length};
 use css_sheet::SheetRule;
 use std::alloc::Global;
 

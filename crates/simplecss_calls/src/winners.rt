@@ -3,20 +3,19 @@
 ghost use Rattle.std.specs.Prelude.{◌≡◌, ◌<◌, ◌≤◌, ◌++◌, ◌^◌, OnOk, IfOk, IfErr, MatchResult, ℕ, List, Some, None};
 ghost use Rattle.std.specs.Prelude.{length, map, option_map, option_to_list};
 ghost use Rattle.std.specs.List.{flat_map};
-ghost use Rattle.css_selectors.specs.Components.{Selector as SelectorText};
+ghost use Rattle.css_selector_text.specs.Components.{Selector as SelectorText};
 ghost use Rattle.css_syntax.specs.Views.{declaration_of, item_of};
 ghost use Rattle.css_cascade.specs.Layers.{most_layers};
 ghost use Rattle.css_sheet.specs.GroupViews.{group_rule_of};
 ghost use Rattle.css_sheet.specs.SheetRuleViews.{sheet_of, sheet_rule_of};
 ghost use Rattle.css_sheet.specs.declared.sheet_error.SheetError.TheVariants.{TooManyDeclarations, TooManyLayers};
 ghost use Rattle.css_styles.specs.StyleViews.{names_of, own_of, winner_of};
-ghost use Rattle.css_styles.specs.Winners.{AreReadBy};
 ghost use Rattle.css_tree.specs.Html.{html_selector};
 ghost use Rattle.css_tree.specs.Walks.{IsOpenAt};
-ghost use Rattle.simplecss_calls.specs.Calls.{FailsLonger};
-ghost use Rattle.simplecss_calls.specs.Numbers.{offset as offset_of};
-ghost use Rattle.simplecss_calls.specs.Outcomes.{numbers_outcome};
-ghost use Rattle.simplecss_calls.specs.Readings.{selector_as};
+ghost use Rattle.call_answers.specs.Calls.{FailsLonger};
+ghost use Rattle.call_answers.specs.Numbers.{offset as offset_of};
+ghost use Rattle.call_answers.specs.Outcomes.{numbers_outcome};
+ghost use Rattle.page_calls.specs.Readings.{selector_as};
 ghost use Rattle.simplecss_calls.specs.WinnerNumbers.{is_held as is_held_of};
 ghost use Rattle.simplecss_calls.specs.internal.Held.{is_among, names_at};
 ghost use Rattle.simplecss_calls.specs.WinnerNumbers.{declaration_numbers as declaration_numbers_of};
@@ -27,16 +26,15 @@ ghost use Rattle.simplecss_calls.specs.WinnerNumbers.{option_numbers, winner_num
 ghost use Rattle.simplecss_calls.specs.WinnerNumbers.{origin_of as origin_of_number, sheets_with as sheets_with_of};
 ghost use Rattle.simplecss_calls.specs.WinnerNumbers.{first_number as first_number_of, later_numbers as later_numbers_of};
 ghost use Rattle.simplecss_calls.specs.WinnerNumbers.{AreNumbers, AreWon, IsWon, IsWonOf, held_declarations, held_layers, held_rules};
-ghost use Rattle.simplecss_calls.specs.internal.Contents.{asked_by, content_of, own_by};
+ghost use Rattle.simplecss_calls.specs.internal.Contents.{AreReadBy, asked_by, content_of, own_by};
 ghost use Rattle.simplecss_calls.specs.declared.contents.Content.TheVariants as contents;
 ghost use Rattle.simplecss_calls.specs.WinnerNumbers.{sheets_of, AreRules, FailsBeside, IsRulesCall};
 
-use crate::answer::{CallError, check_count};
 use crate::around::{first_rules, group_rules, later_rules};
 use crate::contents::{Won, own_at};
 use crate::held::{is_held, read_held};
-use crate::modern::{DocumentKind, html_rule_selectors};
-use crate::texts::texts_of;
+use call_answers::answer::{CallError, check_count};
+use call_answers::texts::texts_of;
 use css_cascade::Origin;
 use css_selectors::Tests;
 use css_sheet::{GroupRule, Sheet, SheetError, SheetRule};
@@ -46,22 +44,8 @@ use css_syntax::places::declaration_value;
 use css_syntax::{Declaration, Item};
 use css_tree::NumberedTree;
 use css_tree::html::HtmlMode;
+use page_calls::modern::{DocumentKind, html_rule_selectors};
 use std::alloc::{AllocError, Global};
-
-impl From<SheetError> for CallError {
-    ghost use Rattle.std.specs.Prelude.{◌≡◌};
-    ghost use Rattle.simplecss_calls.specs.WinnerNumbers.{unread};
-
-    ghost from_gives = { λ error failure. failure ≡ unread error };
-
-    fn from(error: SheetError) -> CallError {
-        match error {
-            SheetError::TooManyDeclarations => CallError::TooManyDeclarations,
-            SheetError::TooManyLayers => CallError::TooManyLayers,
-            SheetError::Memory => CallError::Memory,
-        }
-    }
-}
 
 /// The texts of style sheets and of the group rules that hold, as the caller of a function passes them.
 #[repr(C)]

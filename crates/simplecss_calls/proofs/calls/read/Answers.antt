@@ -1,4 +1,4 @@
-use Rattle.simplecss_calls.proofs.PageCalls.{read_due}
+use Rattle.port_calls.proofs.PageCalls.{read_due}
 use Rattle.simplecss_calls.proofs.calls.read.Goals as goal
 
 pub returns : goal.returns

@@ -1,10 +1,10 @@
 use Rattle.std.proofs.Common.{ℕ, List, map, refl}
 use Rattle.std.specs.Borrow.{Bor}
-use Rattle.simplecss_calls.specs.Calls.{FailsFor}
+use Rattle.call_answers.specs.Calls.{FailsFor}
 use Rattle.simplecss_calls.specs.WinnerNumbers.{IsContent, HasBadContent, IsBrokenContent}
 use Rattle.simplecss_calls.specs.declared.contents.ElementContent.TheVariants.{Winners}
 use Rattle.simplecss_calls.specs.internal.Contents.{content_of}
-use Rattle.simplecss_calls.proofs.ModernCalls.{handed-match}
+use Rattle.call_answers.proofs.Handing.{handed-match}
 use Rattle.simplecss_calls.proofs.contents.read_all.Goals as goal
 
 pub returns-in_err-own : goal.returns-in_err-own

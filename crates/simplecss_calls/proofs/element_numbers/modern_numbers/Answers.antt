@@ -1,12 +1,12 @@
 use Rattle.std.proofs.Common.{◌≡◌, length, map, None, inl, inr, ◌∙◌}
 use Rattle.std.specs.Prelude.{Err, ◌⊎◌}
 use Rattle.std.specs.Str.{IsUtf8}
-use Rattle.simplecss_calls.specs.Calls.{passed_of, passed_tree}
+use Rattle.call_answers.specs.Calls.{passed_of, passed_tree}
 use Rattle.simplecss_calls.specs.WinnerNumbers.{AreAskedOnTree, HasBadContent, IsBrokenContent, IsModernNumbersCall, sheets_of}
-use Rattle.simplecss_calls.specs.internal.Attributes.{placed_attribute_of}
+use Rattle.call_answers.specs.internal.Attributes.{placed_attribute_of}
 use Rattle.simplecss_calls.specs.internal.Contents.{content_of}
-use Rattle.simplecss_calls.proofs.ModernCalls.{read-page-same}
-use Rattle.simplecss_calls.proofs.ModernPages.{tree-length}
+use Rattle.page_calls.proofs.ModernCalls.{read-page-same}
+use Rattle.page_calls.proofs.ModernPages.{tree-length}
 use Rattle.simplecss_calls.proofs.WinnerCalls.{content-beside, numbers-failed, sheets-beside, tree-beside, numbers-due}
 use Rattle.simplecss_calls.proofs.element_numbers.modern_numbers.Goals as goal
 

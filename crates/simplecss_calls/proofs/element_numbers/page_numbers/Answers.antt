@@ -1,7 +1,7 @@
 use Rattle.std.proofs.Common.{List, MatchResult, Some, None, subst, sym}
 use Rattle.css_sheet.specs.SheetOrder.{SheetRuleText}
-use Rattle.simplecss_calls.specs.Calls.{FailsLonger}
-use Rattle.simplecss_calls.specs.Readings.{selector_as}
+use Rattle.call_answers.specs.Calls.{FailsLonger}
+use Rattle.page_calls.specs.Readings.{selector_as}
 use Rattle.simplecss_calls.specs.declared.contents.Content.{Content}
 use Rattle.simplecss_calls.specs.internal.Contents.{content_of}
 use Rattle.simplecss_calls.specs.WinnerNumbers.{AreMatched, AreNumbers}

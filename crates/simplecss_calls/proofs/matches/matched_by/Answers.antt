@@ -1,7 +1,7 @@
 use Rattle.std.proofs.Common.{◌≡◌, ◌+◌, ◌++◌, ℕ, List, length, Some, None, ◌∙◌, subst, arith}
 use Rattle.cssq.proofs.MatchLines.{lines_more}
 use Rattle.simplecss_calls.specs.WinnerNumbers.{AreMatchedBy, IsMatchedBy}
-use Rattle.simplecss_calls.proofs.PageLines.{lines_done, longer_due, memory_due}
+use Rattle.call_answers.proofs.PageLines.{lines_done, longer_due, memory_due}
 use Rattle.simplecss_calls.proofs.matches.matched_by.Goals as goal
 
 pub returns-in_err-push_matched : goal.returns-in_err-push_matched

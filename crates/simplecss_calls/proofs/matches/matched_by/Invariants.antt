@@ -1,6 +1,6 @@
 use Rattle.std.proofs.Common.{◌≡◌}
 use Rattle.css_tree.specs.Walks.{IsOpenAt}
-use Rattle.simplecss_calls.proofs.PageLines.{LinesWithin}
+use Rattle.call_answers.proofs.PageLines.{LinesWithin}
 use Rattle.simplecss_calls.specs.WinnerNumbers.{IsMatchedBy}
 use Rattle.simplecss_calls.proofs.matches.matched_by.Given as goal
 

@@ -1,12 +1,12 @@
 use Rattle.std.proofs.Common.{List, MatchResult, Some, None, map, ap, sym, subst, ◌∙◌}
 use Rattle.std.proofs.lemmas.List.{map-id}
-use Rattle.css_selectors.specs.Components.{Selector}
+use Rattle.css_selector_text.specs.Components.{Selector}
 use Rattle.css_sheet.specs.SheetOrder.{SheetRuleText}
 use Rattle.css_sheet.specs.SheetRuleViews.{sheet_rule_of}
-use Rattle.simplecss_calls.specs.Calls.{FailsLonger}
-use Rattle.simplecss_calls.specs.Readings.{selector_as}
+use Rattle.call_answers.specs.Calls.{FailsLonger}
+use Rattle.page_calls.specs.Readings.{selector_as}
 use Rattle.simplecss_calls.specs.WinnerNumbers.{AreMatchedBy}
-use Rattle.simplecss_calls.proofs.MarkCalls.{rule-selectors}
+use Rattle.page_calls.proofs.MarkCalls.{rule-selectors}
 use Rattle.simplecss_calls.proofs.matches.page_matches.Goals as goal
 
 pub returns-in_ok-walk-in-AsWritten : goal.returns-in_ok-walk-in-AsWritten

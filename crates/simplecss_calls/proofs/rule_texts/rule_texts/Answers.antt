@@ -1,6 +1,6 @@
 use Rattle.simplecss_calls.specs.WinnerNumbers.{sheets_of}
 use Rattle.simplecss_calls.specs.RuleTexts.{AreLongerTexts, IsRuleTextsCall}
-use Rattle.simplecss_calls.proofs.ModernCalls.{handed-on}
+use Rattle.call_answers.proofs.Handing.{handed-on}
 use Rattle.simplecss_calls.proofs.WinnerCalls.{sheets-beside, texts-due}
 use Rattle.simplecss_calls.proofs.rule_texts.rule_texts.Goals as goal
 

@@ -2,8 +2,8 @@ use Rattle.std.proofs.Common.{◌≡◌, ◌≤◌, ◌<◌, ◌+◌, ◌++◌, 
 use Rattle.css_sheet.specs.SheetOrder.{SheetRuleText}
 use Rattle.css_sheet.specs.SheetRuleViews.{sheet_rule_of}
 use Rattle.simplecss_calls.specs.RuleTexts.{rule_texts}
-use Rattle.simplecss_calls.proofs.LineTexts.{line_more}
-use Rattle.simplecss_calls.proofs.PageLines.{front_longer, memory_due}
+use Rattle.call_answers.proofs.LineTexts.{line_more}
+use Rattle.call_answers.proofs.PageLines.{front_longer, memory_due}
 use Rattle.simplecss_calls.proofs.WinnerSteps.{lines-split}
 use Rattle.simplecss_calls.proofs.rule_texts.texts.Goals as goal
 

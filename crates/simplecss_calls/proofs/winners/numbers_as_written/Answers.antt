@@ -1,10 +1,9 @@
 use Rattle.std.proofs.Common.{List, MatchResult, Some, None, sym, subst}
 use Rattle.css_sheet.specs.SheetOrder.{SheetRuleText}
-use Rattle.css_styles.specs.Winners.{AreReadBy}
-use Rattle.simplecss_calls.specs.Calls.{FailsLonger}
+use Rattle.call_answers.specs.Calls.{FailsLonger}
 use Rattle.simplecss_calls.specs.WinnerNumbers.{AreWon}
-use Rattle.simplecss_calls.specs.internal.Contents.{asked_by, own_by}
-use Rattle.simplecss_calls.proofs.PageLines.{memory_due}
+use Rattle.simplecss_calls.specs.internal.Contents.{AreReadBy, asked_by, own_by}
+use Rattle.call_answers.proofs.PageLines.{memory_due}
 use Rattle.simplecss_calls.proofs.winners.numbers_as_written.Goals as goal
 
 pub returns-in_err-styles : goal.returns-in_err-styles

@@ -1,9 +1,8 @@
 use Rattle.std.proofs.Common.{◌≡◌, ◌+◌, ◌++◌, ℕ, List, length, Some, None, ◌∙◌, sym, subst, arith}
-use Rattle.css_styles.specs.Winners.{AreReadBy}
 use Rattle.cssq.proofs.MatchLines.{lines_more}
 use Rattle.simplecss_calls.specs.WinnerNumbers.{AreWon, IsWonOf}
-use Rattle.simplecss_calls.specs.internal.Contents.{asked_by, own_by}
-use Rattle.simplecss_calls.proofs.PageLines.{lines_done, longer_due, memory_due}
+use Rattle.simplecss_calls.specs.internal.Contents.{AreReadBy, asked_by, own_by}
+use Rattle.call_answers.proofs.PageLines.{lines_done, longer_due, memory_due}
 use Rattle.simplecss_calls.proofs.winners.numbers_by.Goals.{After-push_element}
 use Rattle.simplecss_calls.proofs.winners.numbers_by.Goals as goal
 

@@ -1,10 +1,9 @@
 use Rattle.std.proofs.Common.{◌≡◌}
-use Rattle.css_selectors.specs.Components.{Selector}
-use Rattle.css_styles.specs.Winners.{AreReadBy}
+use Rattle.css_selector_text.specs.Components.{Selector}
 use Rattle.css_tree.specs.Walks.{IsOpenAt}
-use Rattle.simplecss_calls.proofs.PageLines.{LinesWithin}
+use Rattle.call_answers.proofs.PageLines.{LinesWithin}
 use Rattle.simplecss_calls.specs.WinnerNumbers.{IsWonOf}
-use Rattle.simplecss_calls.specs.internal.Contents.{asked_by, own_by}
+use Rattle.simplecss_calls.specs.internal.Contents.{AreReadBy, asked_by, own_by}
 use Rattle.simplecss_calls.proofs.winners.numbers_by.Given as goal
 
 -- the numbers of the elements so far, which are few enough, by a walk with the same rules

@@ -1,12 +1,11 @@
 use Rattle.std.proofs.Common.{List, MatchResult, Some, None, map, length, ap, sym, subst, ◌∙◌}
 use Rattle.std.proofs.lemmas.List.{length-map}
 use Rattle.css_sheet.specs.SheetOrder.{SheetRuleText}
-use Rattle.css_styles.specs.Winners.{AreReadBy}
 use Rattle.css_tree.specs.Html.{html_selector}
-use Rattle.simplecss_calls.specs.Calls.{FailsLonger}
+use Rattle.call_answers.specs.Calls.{FailsLonger}
 use Rattle.simplecss_calls.specs.WinnerNumbers.{AreWon}
-use Rattle.simplecss_calls.specs.internal.Contents.{asked_by, own_by}
-use Rattle.simplecss_calls.proofs.PageLines.{memory_due}
+use Rattle.simplecss_calls.specs.internal.Contents.{AreReadBy, asked_by, own_by}
+use Rattle.call_answers.proofs.PageLines.{memory_due}
 use Rattle.simplecss_calls.proofs.winners.numbers_in_html.Goals as goal
 
 pub returns-in_err-selectors : goal.returns-in_err-selectors

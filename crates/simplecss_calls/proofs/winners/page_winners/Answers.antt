@@ -1,12 +1,12 @@
 use Rattle.std.proofs.Common.{MatchResult, ℕ, List, Some, None, Option, map, ap, sym, subst, option_map, ◌∙◌}
 use Rattle.std.specs.Borrow.{Bor}
 use Rattle.css_styles.specs.StyleViews.{names_of}
-use Rattle.simplecss_calls.specs.Calls.{FailsLonger}
-use Rattle.simplecss_calls.specs.Readings.{selector_as}
+use Rattle.call_answers.specs.Calls.{FailsLonger}
+use Rattle.page_calls.specs.Readings.{selector_as}
 use Rattle.simplecss_calls.specs.WinnerNumbers.{AreWon}
 use Rattle.simplecss_calls.specs.declared.contents.AskedProperties.{AskedProperties}
 use Rattle.simplecss_calls.specs.internal.Contents.{asked_in}
-use Rattle.simplecss_calls.proofs.PageLines.{memory_due}
+use Rattle.call_answers.proofs.PageLines.{memory_due}
 use Rattle.simplecss_calls.proofs.winners.page_winners.Goals as goal
 
 abbrev texts_of : List (Bor (List ℕ)) → List (List ℕ)

@@ -4,7 +4,7 @@ use Rattle.css_sheet.specs.declared.sheet_rules.Sheet.{Sheet}
 use Rattle.css_cascade.specs.Layers.{most_layers}
 use Rattle.css_sheet.specs.SheetRuleViews.{sheet_of}
 use Rattle.simplecss_calls.specs.WinnerNumbers.{AreRules, FailsBeside, held_declarations, held_layers, held_rules, sheets_of}
-use Rattle.simplecss_calls.proofs.ModernCalls.{handed-match}
+use Rattle.call_answers.proofs.Handing.{handed-match}
 use Rattle.simplecss_calls.proofs.WinnerCalls.{are-sheets, texts-beside, groups-beside, spaces-beside, memory-beside, rules-beside}
 use Rattle.simplecss_calls.proofs.winners.read_rules.Goals as goal
 

@@ -1,6 +1,6 @@
 use Rattle.std.proofs.Common.{ap, ◌∙◌}
 use Rattle.std.specs.List.{flat_map}
-use Rattle.simplecss_calls.specs.declared.answer.CallError.TheVariants.{Memory}
+use Rattle.call_answers.specs.declared.answer.CallError.TheVariants.{Memory}
 use Rattle.simplecss_calls.specs.WinnerNumbers.{IsRulesCall, rule_numbers, sheets_of}
 use Rattle.simplecss_calls.proofs.WinnerCalls.{numbers-failed}
 use Rattle.simplecss_calls.proofs.winners.rules.Goals as goal

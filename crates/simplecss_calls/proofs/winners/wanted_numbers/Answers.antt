@@ -1,7 +1,7 @@
 use Rattle.std.proofs.Common.{MatchResult, Some, None, sym, subst}
-use Rattle.simplecss_calls.specs.declared.modern.document_kind.DocumentKind.{DocumentKind}
-use Rattle.simplecss_calls.specs.Calls.{FailsLonger}
-use Rattle.simplecss_calls.specs.Readings.{selector_as}
+use Rattle.page_calls.specs.declared.modern.document_kind.DocumentKind.{DocumentKind}
+use Rattle.call_answers.specs.Calls.{FailsLonger}
+use Rattle.page_calls.specs.Readings.{selector_as}
 use Rattle.simplecss_calls.specs.WinnerNumbers.{AreWon}
 use Rattle.simplecss_calls.specs.internal.Contents.{asked_by, own_by}
 use Rattle.simplecss_calls.proofs.winners.wanted_numbers.Goals as goal

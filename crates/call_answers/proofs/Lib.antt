@@ -1,0 +1,13 @@
+pub mod TextCuts
+pub mod Limits
+pub mod Handing
+pub mod StringCuts
+pub mod RepeatedKeys
+pub mod Building
+pub mod LineTexts
+pub mod PortSteps
+pub mod PortVectors
+pub mod SelectorTexts
+pub mod PlacedNumbers
+pub mod PageLines
+pub mod SpacedAttributes

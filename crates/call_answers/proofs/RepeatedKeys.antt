@@ -1,0 +1,109 @@
+-- Keys of attributes in a set.
+-- Serves `elements::repeats_key` (a key that is there twice).
+use Rattle.std.proofs.Common.{◌≡◌, ℕ, zero, suc, ◌+◌, ◌<◌, ◌≤◌, Bool, true, false, cond, List, [], ◌∷◌, ◌++◌, refl, sym, ap, ◌∙◌, ◌-◌, Bor, Ordering, arith}
+use Rattle.std.specs.Prelude.{bytes_eq, not, ◌||◌}
+use Rattle.std.specs.List.{list_any}
+use Rattle.std.specs.Ordering.{nat_cmp, is_eq}
+use Rattle.std.specs.Cmp.Lexicographic.{slice_cmp}
+use Rattle.std.specs.BTreeMap.{is_at}
+use Rattle.std.specs.BTreeSet.{BTreeSet, contains_by, IsEmpty, Updates}
+use Rattle.std.proofs.Math.Bool.{or-true}
+use Rattle.std.proofs.lemmas.Bool.{not-false, not-true}
+use Rattle.std.proofs.lemmas.Map.Text.{is_eq-slice_cmp}
+use Rattle.std.proofs.lemmas.List.Folds.{list_any-append}
+use Rattle.std.proofs.lemmas.List.FromFn.{map-range_with_len_more}
+use Rattle.call_answers.specs.Elements.{key_in, keys_in, has_key, repeats_key}
+
+-- how keys are compared
+abbrev pub by_text : Bor (List ℕ) → Bor (List ℕ) → Ordering
+by_text x y = slice_cmp nat_cmp x.now y.now
+
+abbrev pub has_text : BTreeSet (Bor (List ℕ)) → List ℕ → Bool
+has_text keys key = contains_by (λ k. slice_cmp nat_cmp key k.now) keys
+
+-- the set has the keys of the first attributes, none of which repeats one
+pub record KeysAre (fields : List (List ℕ)) (count : ℕ)
+    (keys : BTreeSet (Bor (List ℕ))) : Type 0 where
+  pub new : repeats_key fields count ≡ false
+  pub has : (key : List ℕ) → has_text keys key ≡ has_key (keys_in fields count) key
+
+pub keys_none : (fields : List (List ℕ)) (keys : BTreeSet (Bor (List ℕ))) → IsEmpty keys
+    → KeysAre fields 0 keys
+keys_none fields keys empty = record {
+  new = refl;
+  has = λ key. ap (λ ks. list_any (is_at (λ k. slice_cmp nat_cmp key k.now)) ks) empty;
+}
+
+one_more : (b x : Bool) → cond b true x ≡ x || (b || false)
+one_more true true = refl
+one_more true false = refl
+one_more false true = refl
+one_more false false = refl
+
+-- the key of one attribute more
+keys_next : (fields : List (List ℕ)) (i : ℕ)
+    → keys_in fields (i + 1) ≡ keys_in fields i ++ key_in fields i ∷ []
+keys_next fields i = map-range_with_len_more (key_in fields) 0 i i (omega arith)
+
+repeats_next : (fields : List (List ℕ)) (i : ℕ)
+    → repeats_key fields (i + 1)
+    ≡ repeats_key fields i || has_key (keys_in fields i) (key_in fields i)
+repeats_next fields i = let next : i + 1 ≡ suc i = omega arith in ap (repeats_key fields) next
+
+-- a key that is repeated is repeated among more attributes
+repeats_more : (fields : List (List ℕ)) (i more : ℕ) → repeats_key fields i ≡ true
+    → repeats_key fields (i + more) ≡ true
+repeats_more fields i zero is =
+    let same : i + 0 ≡ i = omega arith in
+    ap (repeats_key fields) same ∙ is
+repeats_more fields i (suc more) is =
+    let next : i + suc more ≡ suc (i + more) = omega arith in
+    ap (repeats_key fields) next
+    ∙ ap (λ b. b || has_key (keys_in fields (i + more)) (key_in fields (i + more)))
+    (repeats_more fields i more is)
+
+module _ {fields : List (List ℕ)} {i : ℕ} {keys : BTreeSet (Bor (List ℕ))}
+    (are : KeysAre fields i keys) (key : Bor (List ℕ)) (same : key.now ≡ key_in fields i) where
+  tested : (added : Bool) → added ≡ not (has_text keys key.now)
+      → added ≡ not (has_key (keys_in fields i) (key_in fields i))
+  tested added was = was ∙ ap not (are.has key.now ∙ ap (has_key (keys_in fields i)) same)
+
+  -- the key was in the set before
+  pub had : (added : Bool) → added ≡ not (has_text keys key.now) → added ≡ false → (count : ℕ)
+      → i < count → repeats_key fields count ≡ true
+  had added was old count less =
+      let there : has_key (keys_in fields i) (key_in fields i) ≡ true =
+      not-false _ (sym (tested added was) ∙ old) in
+      let here : repeats_key fields (i + 1) ≡ true = repeats_next fields i
+      ∙ ap (λ b. repeats_key fields i || b) there ∙ or-true (repeats_key fields i) in
+      let sum : i + 1 + (count - (i + 1)) ≡ count = omega (arith, less) in
+      ap (repeats_key fields) (sym sum) ∙ repeats_more fields (i + 1) (count - (i + 1)) here
+
+  has_more : (more : BTreeSet (Bor (List ℕ))) → Updates by_text keys more key true → (q : List ℕ)
+      → has_text more q ≡ has_key (keys_in fields (i + 1)) q
+  has_more more updates q =
+      let found : is_eq (slice_cmp nat_cmp key.now q) ≡ bytes_eq (key_in fields i) q =
+      is_eq-slice_cmp key.now q ∙ ap (λ k. bytes_eq k q) same in
+      updates.0 (record { ref_ptr = (0, 0); now = q })
+      ∙ (λ k. cond (found k) true (are.has q k))
+      ∙ one_more (bytes_eq (key_in fields i) q) (has_key (keys_in fields i) q)
+      ∙ sym (list_any-append (λ k. bytes_eq k q) (keys_in fields i) (key_in fields i ∷ []))
+      ∙ ap (λ ks. has_key ks q) (sym (keys_next fields i))
+
+  -- the key was not in the set
+  pub keys_more : (added : Bool) → added ≡ not (has_text keys key.now) → added ≡ true
+      → (more : BTreeSet (Bor (List ℕ))) → Updates by_text keys more key true
+      → KeysAre fields (i + 1) more
+  keys_more added was new more updates = record {
+    new =
+        repeats_next fields i ∙ ap (λ b. b || has_key (keys_in fields i) (key_in fields i)) are.new
+        ∙ not-true _ (sym (tested added was) ∙ new);
+    has = has_more more updates;
+  }
+
+-- one attribute has no earlier one
+pub repeats_few : (fields : List (List ℕ)) (count : ℕ) → count ≤ 1
+    → repeats_key fields count ≡ false
+repeats_few fields zero few = refl
+repeats_few fields (suc zero) few = refl
+repeats_few fields (suc (suc n)) few = absurd (omega (arith, few))

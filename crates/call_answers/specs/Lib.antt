@@ -1,0 +1,14 @@
+pub mod Outcomes
+pub mod Texts
+pub mod Elements
+pub mod Answers
+pub mod Failures
+pub mod Numbers
+pub mod Refusals
+pub mod PortTexts
+pub mod SelectorNumbers
+pub mod AnswerLines
+pub mod Calls
+pub mod ItemNumbers
+pub mod SheetNumbers
+pub mod internal

@@ -1,0 +1,5 @@
+pub mod Readings
+pub mod ModernLines
+pub mod ModernCalls
+pub mod MarkedPages
+pub mod Ranges

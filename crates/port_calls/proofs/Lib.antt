@@ -1,0 +1,2 @@
+pub mod PageCalls
+pub mod ListFacts

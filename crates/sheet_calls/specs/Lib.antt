@@ -1,0 +1,9 @@
+pub mod Conditions
+pub mod NumberLines
+pub mod Values
+pub mod ImportLines
+pub mod ContentNumbers
+pub mod PrintedSheets
+pub mod Spellings
+pub mod Linting
+pub mod internal

@@ -1,0 +1,104 @@
+//! HTML pages as numbers and strings, and their encodings.
+
+ghost use Rattle.std.specs.Prelude.{IfOk, length};
+ghost use Rattle.html_calls.specs.Pages.{ArePageNumbers, past_mark};
+ghost use Rattle.call_answers.specs.Answers.{IsAnswered};
+ghost use Rattle.call_answers.specs.Outcomes.{outcome_of};
+ghost use Rattle.simplecss_c.specs.HtmlCalls.{IsHtmlCall, IsEncodingCall};
+
+use call_answers::answer::{CallError, copy_whole, hand_over};
+use call_answers::texts::text_of;
+use css_html_tree::page::{Fault, Options};
+use html_calls::pages::{Answer, Reading, context_of, read};
+use html_encodings::page::{encoding_of_page, line_of};
+use std::alloc::Global;
+
+/// The status of a call whose answer is longer than the buffer.
+const TOO_SMALL: u32 = 6;
+/// The flags of how a page is read: scripts run, and what is in templates is left out.
+const HAS_SCRIPTS: usize = 1;
+
+const LEAVES_TEMPLATES: usize = 2;
+
+/// Returns the failure of a call for what is wrong with a page.
+fn failure_of(fault: Fault) -> CallError {
+    match fault {
+        Fault::Memory => CallError::Memory,
+        Fault::TooDeep | Fault::TooLong => CallError::AnswerTooLong,
+    }
+}
+
+/// Returns the numbers and the strings of a page.
+fn answer_of(alloc: Global, bytes: &[u8], reading: &Reading<'_>) -> Result<Answer, CallError>
+    ensures { IfOk result (λ answer. ArePageNumbers (length bytes.now) (past_mark bytes.now)
+        answer.numbers.items) }
+{
+    let text = text_of(bytes)?;
+    match read(alloc, text.as_bytes(), reading) {
+        Ok(answer) => Ok(answer),
+        Err(fault) => Err(failure_of(fault)),
+    }
+}
+
+/// Writes an HTML page as numbers and strings, or the content of an element: the namespace of that and its
+/// start tag without `<` and `>` are the context.
+#[unsafe(no_mangle)]
+pub extern "C" fn simplecss_html(
+    alloc: Global,
+    text: &[u8],
+    space: usize,
+    context: &[u8],
+    flags: usize,
+    out: &mut [usize],
+    len: &mut usize,
+    strings: &mut [u8],
+    strings_used: &mut usize,
+) -> u32
+    ensures { IsHtmlCall text.now result out.old out.new len.new }
+{
+    let reading = Reading {
+        options: Options {
+            has_scripts: flags & HAS_SCRIPTS != 0,
+            context: context_of(space, context),
+        },
+        leaves_templates: flags & LEAVES_TEMPLATES != 0,
+    };
+    *strings_used = 0;
+    *len = 0;
+    let answer = match answer_of(alloc, text, &reading) {
+        Ok(answer) => answer,
+        Err(failure) => return failure.status(),
+    };
+    *strings_used = answer.strings.len();
+    if strings.len() < answer.strings.len() {
+        *len = answer.numbers.len();
+        return TOO_SMALL;
+    }
+    let status = copy_whole(answer.numbers.as_slice(), out, len);
+    if status == 0 {
+        strings[..answer.strings.len()].copy_from_slice(answer.strings.as_slice());
+    }
+    status
+}
+
+/// Returns what says in which encoding a page is, a tab and the encoding's name.
+fn encoding_told(alloc: Global, label: &[u8], page: &[u8]) -> Result<String, CallError>
+    ensures { IsEncodingCall label.now page.now (outcome_of result) }
+{
+    Ok(line_of(alloc, encoding_of_page(label, page))?)
+}
+
+/// Writes what says in which encoding a page is, a tab and the encoding's name. The label is what comes with the page,
+/// as from a server.
+#[unsafe(no_mangle)]
+pub extern "C" fn simplecss_html_encoding(
+    alloc: Global,
+    text: &[u8],
+    label: &[u8],
+    out: &mut [u8],
+    len: &mut usize,
+) -> u32
+    ensures { IsAnswered (IsEncodingCall label.now text.now) result out.old out.new len.new }
+{
+    hand_over(encoding_told(alloc, label, text), out, len)
+}

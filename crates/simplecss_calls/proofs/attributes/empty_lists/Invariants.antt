@@ -1,8 +1,0 @@
-use Rattle.std.proofs.Common.{◌≡◌, [], map, length}
-use Rattle.simplecss_calls.specs.Elements.{attributes_by}
-use Rattle.simplecss_calls.specs.internal.Attributes.{lists_of}
-use Rattle.simplecss_calls.proofs.attributes.empty_lists.Given as goal
-
--- so many empty lists
-abbrev pub invariant-loop : goal.invariant-loop
-invariant-loop l = lists_of l.found.items ≡ attributes_by l.counter []

@@ -1,7 +1,0 @@
-use Rattle.std.proofs.Common.{◌≡◌, take, string_bytes}
-use Rattle.simplecss_calls.specs.SelectorNumbers.{port_texts}
-use Rattle.simplecss_calls.proofs.lists.printed.Given as goal
-
--- the texts of the selectors so far
-abbrev pub invariant-loop-selector : goal.invariant-loop-selector
-invariant-loop-selector l = string_bytes l.out ≡ port_texts (take l.selector-index l.selectors)
