@@ -1,16 +1,16 @@
 -- Of which lists the selectors of rules ask.
 -- Serves `nested_lists_law`.
 use Rattle.std.proofs.Common.{ℕ, ◌<◌, List, [], ◌∷◌, map}
-use Rattle.css_selectors.specs.declared.components.Nesting.{Nesting}
-use Rattle.css_selectors.specs.Components.{Simple, Condition, Conditions, Parts, Selectors, Part, Selector, conditions_from, parts_from}
-use Rattle.css_selectors.specs.Components.Simple.{universal, type_name, id, class, has_attribute, attribute, structure, language, state, function, named_element, nesting, namespaced}
-use Rattle.css_selectors.specs.Components.Condition.{simple, negation, any_of, where_any, tested}
-use Rattle.css_selectors.specs.Components.Conditions.{end_of_compound, with_condition}
-use Rattle.css_selectors.specs.Components.Parts.{end_of_selector, with_part}
-use Rattle.css_selectors.specs.Components.Selectors.{end_of_list, with_selector}
-use Rattle.css_selectors.specs.Nested.{simple_under, selector_under}
-use Rattle.css_selectors.specs.Originating.{or_any, part_or_any, originating}
-use Rattle.css_selectors.specs.Simples.{condition_with, compound_with, complex_with, selectors_with, part_with}
+use Rattle.css_selector_text.specs.declared.components.Nesting.{Nesting}
+use Rattle.css_selector_text.specs.Components.{Simple, Condition, Conditions, Parts, Selectors, Part, Selector, conditions_from, parts_from}
+use Rattle.css_selector_text.specs.Components.Simple.{universal, type_name, id, class, has_attribute, attribute, structure, language, state, function, named_element, nesting, namespaced}
+use Rattle.css_selector_text.specs.Components.Condition.{simple, negation, any_of, where_any, tested}
+use Rattle.css_selector_text.specs.Components.Conditions.{end_of_compound, with_condition}
+use Rattle.css_selector_text.specs.Components.Parts.{end_of_selector, with_part}
+use Rattle.css_selector_text.specs.Components.Selectors.{end_of_list, with_selector}
+use Rattle.css_selector_text.specs.reading.Nested.{simple_under, selector_under}
+use Rattle.css_selector_text.specs.Originating.{or_any, part_or_any, originating}
+use Rattle.css_selector_text.specs.Simples.{condition_with, compound_with, complex_with, selectors_with, part_with}
 use Rattle.css_tree.specs.Asked.{SimpleAsksBelow, AsksBelow, CompoundAsksBelow, PartsAskBelow, ListAsksBelow, SelectorAsksBelow}
 
 -- ---- `&` stands for one list

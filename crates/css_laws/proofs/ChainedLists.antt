@@ -12,13 +12,13 @@ use Rattle.css_syntax.specs.declared.quality.Fault.{Fault}
 use Rattle.css_syntax.specs.Parts.{Stated}
 use Rattle.css_syntax.specs.Qualities.{is_good, fault_of}
 use Rattle.css_cascade.specs.Layers.{LayerText}
-use Rattle.css_selectors.specs.declared.components.Nesting.{Nesting}
-use Rattle.css_selectors.specs.Components.{Placed, PseudoElement, Selector}
-use Rattle.css_selectors.specs.Nested.{absolute, nested, nested_readings}
-use Rattle.css_selectors.specs.Originating.{originating}
-use Rattle.css_selectors.specs.Readings.{Reading, got, refused}
-use Rattle.css_selectors.specs.Names.{Names}
-use Rattle.css_selectors.specs.Supported.{is_last_condition, is_supported_selector}
+use Rattle.css_selector_text.specs.declared.components.Nesting.{Nesting}
+use Rattle.css_selector_text.specs.Components.{Placed, PseudoElement, Selector}
+use Rattle.css_selector_text.specs.reading.Nested.{absolute, nested, nested_readings}
+use Rattle.css_selector_text.specs.Originating.{originating}
+use Rattle.css_selector_text.specs.reading.Readings.{Reading, got, refused}
+use Rattle.css_selector_text.specs.Names.{Names}
+use Rattle.css_selector_text.specs.reading.Supported.{is_last_condition, is_supported_selector}
 use Rattle.css_tree.specs.Asked.{SelectorAsksBelow, AskEarlier}
 use Rattle.css_sheet.specs.RuleSelectors.{SelectorRead, ListContext, is_listed, listed_under, if_supported, element_read, read_with, selector_read, list_by, list_under, listed_or, all_read, selectors_under}
 use Rattle.css_sheet.specs.NestedSelectors.{if_of_elements, element_selector, element_selectors}
@@ -126,7 +126,7 @@ module _ (m : ℕ) where
       → AskAll (map (nested names list) all)
   nested-asks names list below all =
       All-map (λ p. SelectorAsksBelow (suc m) p.selector) (nested names list) all
-      (every _ (λ p. selector-under list (suc m) below (absolute names p.selector)) all)
+      (every _ (λ p. selector-under list (suc m) below (absolute names p)) all)
 
   under-asks : (names : Names) (under : Option Nesting) → NestingBelow (suc m) under
       → (text rest : List ℕ) (all : List Placed) → list_by names under text ≡ got all rest → AskAll all

@@ -9,3 +9,16 @@ pub mod AskLemmas
 pub mod ChainedLists
 pub mod ListLemmas
 pub mod NumberedLists
+pub mod MeaningLemmas
+pub mod SourceOrderLemmas
+pub mod CountLemmas
+pub mod HintLemmas
+pub mod HtmlNumbers
+pub mod HtmlSelectors
+pub mod HeadlineLemmas
+pub mod ConditionLemmas
+pub mod DeviceLemmas
+pub mod AnswerLemmas
+pub mod PieceLemmas
+pub mod LayerOrderLemmas
+pub mod BlankLemmas

@@ -9,8 +9,8 @@ use Rattle.std.proofs.lemmas.Bool.{lt-ltb}
 use Rattle.std.proofs.lemmas.Bool.Decides.{nat_tests}
 use Rattle.std.proofs.lemmas.List.{length-append}
 use Rattle.css_matching.specs.ListTrees.{lesser, with_parent, parent_by, sibling_by}
-use Rattle.simplecss_tree.specs.Rows.{Row, nobody, last_naming, last_child, new_child, row_with, row_in, IsMissing}
-use Rattle.simplecss_tree.specs.TreeNodes.{named_parent, named_previous}
+use Rattle.css_elements.specs.Rows.{Row, nobody, last_naming, last_child, new_child, row_with, row_in, IsMissing}
+use Rattle.css_elements.specs.TreeNodes.{named_parent, named_previous}
 use Rattle.css_tree.specs.Counts.{last_below}
 use Rattle.css_tree.specs.Pages.{is_sibling, family_under}
 use Rattle.css_laws.specs.Pages.{IsMade}

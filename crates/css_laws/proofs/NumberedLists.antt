@@ -5,17 +5,17 @@ use Rattle.std.specs.Prelude.{All}
 use Rattle.std.specs.Option.{option_map_or}
 use Rattle.std.proofs.lemmas.List.Elements.{All-nil, All-cons, All-head, All-tail}
 use Rattle.std.proofs.lemmas.Option.{slice_get-get_or}
-use Rattle.css_selectors.specs.Components.{Simple, Condition, Conditions, Parts, Selectors, Part, PseudoElement, Selector, conditions_from, parts_from}
-use Rattle.css_selectors.specs.Components.Simple.{universal, type_name, id, class, has_attribute, attribute, structure, language, state, function, named_element, nesting, namespaced}
-use Rattle.css_selectors.specs.Components.Condition.{simple, negation, any_of, where_any, tested}
-use Rattle.css_selectors.specs.Components.Conditions.{end_of_compound, with_condition}
-use Rattle.css_selectors.specs.Components.Parts.{end_of_selector, with_part}
-use Rattle.css_selectors.specs.Components.Selectors.{end_of_list, with_selector}
-use Rattle.css_selectors.specs.Components.{Placed}
-use Rattle.css_selectors.specs.Grammar.{placed_list}
-use Rattle.css_selectors.specs.Names.{Names}
-use Rattle.css_selectors.specs.Readings.{Reading, got, refused}
-use Rattle.css_selectors.specs.Supported.{deepest_joined, parts_supported, is_last_condition, is_plain_element, is_supported_selector, first_unsupported, if_all, supported_readings, supported_list}
+use Rattle.css_selector_text.specs.Components.{Simple, Condition, Conditions, Parts, Selectors, Part, PseudoElement, Selector, conditions_from, parts_from}
+use Rattle.css_selector_text.specs.Components.Simple.{universal, type_name, id, class, has_attribute, attribute, structure, language, state, function, named_element, nesting, namespaced}
+use Rattle.css_selector_text.specs.Components.Condition.{simple, negation, any_of, where_any, tested}
+use Rattle.css_selector_text.specs.Components.Conditions.{end_of_compound, with_condition}
+use Rattle.css_selector_text.specs.Components.Parts.{end_of_selector, with_part}
+use Rattle.css_selector_text.specs.Components.Selectors.{end_of_list, with_selector}
+use Rattle.css_selector_text.specs.Components.{Placed}
+use Rattle.css_selector_text.specs.reading.Grammar.{placed_list}
+use Rattle.css_selector_text.specs.Names.{Names}
+use Rattle.css_selector_text.specs.reading.Readings.{Reading, got, refused}
+use Rattle.css_selector_text.specs.reading.Supported.{deepest_joined, parts_supported, is_last_condition, is_plain_element, is_supported_selector, first_unsupported, if_all, supported_readings, supported_list}
 use Rattle.css_selectors.specs.MarkedLists.{ListText}
 use Rattle.css_selectors.specs.MarkedLists.ListText.{matched, tested as tested_list}
 use Rattle.css_selectors.specs.Numberings.{NumberingText, Numbered, one_then, number_of, numbered_simple, numbered_condition, numbered_compound, numbered_complex, numbered_list, numbered_conditions, numbered_part, numbered_parts, numbered_element, element_with, made_of, selector_with, numbered_parts_and_element, numbered_selector, numbered_selectors, with_list, with_numbered, with_each_list, no_lists, no_list}

@@ -14,8 +14,8 @@ use Rattle.simplecss_selector.specs.Placements.IsAncestor.{is_parent, is_further
 use Rattle.simplecss_selector.specs.Shapes.{IsSelector, any_component}
 use Rattle.simplecss_selector.specs.Trees.{Tree}
 use Rattle.css_selectors.proofs.PlacementListLemmas.{matches_list}
-use Rattle.css_selectors.specs.Components.{conditions_from}
-use Rattle.css_selectors.specs.Components.Condition.{simple}
+use Rattle.css_selector_text.specs.Components.{conditions_from}
+use Rattle.css_selector_text.specs.Components.Condition.{simple}
 use Rattle.css_selectors.specs.Documents.{Document, shape}
 use Rattle.css_selectors.specs.Meanings.{AreMet, Matches, holds}
 use Rattle.css_selectors.specs.PlacementLists.{ContinuesPlacement, HasPlacementList}

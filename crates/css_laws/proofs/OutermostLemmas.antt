@@ -7,22 +7,22 @@ use Rattle.css_text.specs.AsciiBytes.{asterisk, colon, comma, full_stop, number_
 use Rattle.css_text.specs.Bytes.{past_one, starts, starts_by}
 use Rattle.css_matching.specs.declared.Combinator.{Combinator}
 use Rattle.css_matching.specs.declared.Combinator.TheVariants.{Descendant}
-use Rattle.css_selectors.specs.declared.refusal.Why.{Why}
-use Rattle.css_selectors.specs.declared.refusal.Why.TheVariants.{Unexpected}
-use Rattle.css_selectors.specs.Components.{ListTest, Progression, Structure, Namespace, Local, Simple, Condition, Conditions, Parts, Selectors, Part, Placed, conditions_from, parts_from, selectors_from}
-use Rattle.css_selectors.specs.Components.ListTest.{nth_child, nth_last_child}
-use Rattle.css_selectors.specs.Components.Local.{any_type, a_type, some_attribute, an_attribute, implied}
-use Rattle.css_selectors.specs.Components.Simple.{universal, type_name, id, class, has_attribute, attribute, structure, language, state, function, named_element, nesting, namespaced}
-use Rattle.css_selectors.specs.Components.Condition.{simple, negation, any_of, where_any, tested as tested_condition}
-use Rattle.css_selectors.specs.Components.Conditions.{end_of_compound, with_condition}
-use Rattle.css_selectors.specs.Components.Parts.{end_of_selector, with_part}
-use Rattle.css_selectors.specs.Components.Selectors.{end_of_list, with_selector}
-use Rattle.css_selectors.specs.Defaults.{type_in, is_exempting, begins_typed, with_implied, is_end, condition_in, compound_in, complex_in, selectors_in, in_default}
-use Rattle.css_selectors.specs.Names.{Names}
-use Rattle.css_selectors.proofs.DefaultLemmas.{complex_in-from}
-use Rattle.css_selectors.specs.KnownNames.{is_one_of, states, functions}
-use Rattle.css_selectors.specs.Readings.{Reading, got, refused, Reader, follow, Step, item, none, stop, step_after, as_item, with_first, go_on, items_up_to, items}
-use Rattle.css_selectors.specs.Grammar.{gap, name, ident_sequence, namespace, in_namespace, attribute_from_name, attribute_selector, any_or_name, type_after, type_selector, ampersand, next_simple, plain_structure, plain_pseudo, is_old_element, named_pseudo, list_kind, function_named, argument_of, language_ranges, progression, closing, is_word, begins_name, of_list, after_word, functional, begins_pseudo_class, simple_item, with_argument, pseudo_condition, condition_here, condition_by, too_deep, next_condition, deepest, condition_at, outside, Finder, ListReader, CompoundReader, some_of, after_type, compound, first_sign, joined_by, signed_part, by_sign, part_after, begins_compound, next_part_in, complex_by, is_relative, leading_sign, after_leading, complex, ends_part, is_lasting, no_selector, part_end, judged, listed_part, next_listed, kept, keep, selectors_after, is_forgiving, complex_list, may_open, list_by, after_type_name, conditions, next_part, parts, placed, placed_by, next_placed, placed_list_by, placed_list, past_comments, pseudo_element, at_end}
+use Rattle.css_selector_text.specs.declared.refusal.Why.{Why}
+use Rattle.css_selector_text.specs.declared.refusal.Why.TheVariants.{Unexpected}
+use Rattle.css_selector_text.specs.Components.{ListTest, Progression, Structure, Namespace, Local, Simple, Condition, Conditions, Parts, Selectors, Part, Placed, conditions_from, parts_from, selectors_from}
+use Rattle.css_selector_text.specs.Components.ListTest.{nth_child, nth_last_child}
+use Rattle.css_selector_text.specs.Components.Local.{any_type, a_type, some_attribute, an_attribute, implied}
+use Rattle.css_selector_text.specs.Components.Simple.{universal, type_name, id, class, has_attribute, attribute, structure, language, state, function, named_element, nesting, namespaced}
+use Rattle.css_selector_text.specs.Components.Condition.{simple, negation, any_of, where_any, tested as tested_condition}
+use Rattle.css_selector_text.specs.Components.Conditions.{end_of_compound, with_condition}
+use Rattle.css_selector_text.specs.Components.Parts.{end_of_selector, with_part}
+use Rattle.css_selector_text.specs.Components.Selectors.{end_of_list, with_selector}
+use Rattle.css_selector_text.specs.reading.Defaults.{type_in, is_exempting, begins_typed, with_implied, is_end, condition_in, compound_in, complex_in, selectors_in, in_default}
+use Rattle.css_selector_text.specs.Names.{Names}
+use Rattle.css_selector_text.proofs.DefaultLemmas.{complex_in-from}
+use Rattle.css_selector_text.specs.reading.KnownNames.{is_one_of, states, functions}
+use Rattle.css_selector_text.specs.reading.Readings.{Reading, got, refused, Reader, follow, Step, item, none, stop, step_after, as_item, with_first, go_on, items_up_to, items}
+use Rattle.css_selector_text.specs.reading.Grammar.{gap, name, ident_sequence, namespace, in_namespace, attribute_from_name, attribute_selector, any_or_name, type_after, type_selector, ampersand, next_simple, plain_structure, plain_pseudo, is_old_element, named_pseudo, list_kind, function_named, argument_of, language_ranges, progression, closing, is_word, begins_name, of_list, after_word, functional, begins_pseudo_class, simple_item, with_argument, pseudo_condition, condition_here, condition_by, too_deep, next_condition, deepest, condition_at, outside, Finder, ListReader, CompoundReader, some_of, after_type, compound, first_sign, joined_by, signed_part, by_sign, part_after, begins_compound, next_part_in, complex_by, is_relative, leading_sign, after_leading, complex, ends_part, is_lasting, no_selector, part_end, judged, listed_part, next_listed, kept, keep, selectors_after, is_forgiving, complex_list, may_open, list_by, after_type_name, conditions, next_part, parts, placed, placed_by, next_placed, placed_list_by, placed_list, past_comments, pseudo_element, at_end}
 use Rattle.css_tree.specs.Asked.{SimpleAsksBelow, AsksBelow, CompoundAsksBelow, PartsAskBelow, ListAsksBelow, SelectorAsksBelow}
 
 -- ---- readers

@@ -18,8 +18,9 @@ use Rattle.simplecss_grammar.specs.Components.KnownPseudoClass.{first_child, lin
 use Rattle.simplecss_grammar.specs.Components.Operator.{exists, equals, has_word, begins_with}
 use Rattle.simplecss_grammar.specs.Components.Subselector.{attribute, pseudo_class}
 use Rattle.simplecss_selector.specs.Meanings.{AreNoneOrRelated}
-use Rattle.simplecss_tree.specs.Rows.{Row}
-use Rattle.simplecss_tree.specs.TreeNodes.{named_parent, element_tree, is_in_language, ends_subtag, language_at}
+use Rattle.css_elements.specs.Rows.{Row}
+use Rattle.css_elements.specs.TreeNodes.{named_parent, is_in_language, ends_subtag, language_at}
+use Rattle.simplecss_tree.specs.TreeNodes.{element_tree}
 use Rattle.css_tree.specs.Counts.{count_below, last_below}
 use Rattle.css_tree.specs.Languages.{subtags, is_wildcard, is_matched, is_in_range}
 use Rattle.css_tree.specs.Laws.{earlier_count}

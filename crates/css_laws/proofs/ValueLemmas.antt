@@ -10,9 +10,9 @@ use Rattle.css_text.specs.AsciiBytes.{hyphen}
 use Rattle.simplecss_grammar.specs.Components.{Operator}
 use Rattle.simplecss_grammar.specs.Components.Operator.{exists, equals, has_word, begins_with}
 use Rattle.simplecss_selector.specs.Operators.{is_satisfied as port_is_satisfied}
-use Rattle.css_selectors.specs.AttributeTests.{begins, begins_up_to, is_hyphen}
+use Rattle.css_selector_text.specs.AttributeTests.{begins, begins_up_to, is_hyphen}
 use Rattle.css_selectors.specs.Documents.{Document}
-use Rattle.css_selectors.specs.Components.Comparison.{equals as is_text, has_word as has_this_word, has_subtag}
+use Rattle.css_selector_text.specs.Components.Comparison.{equals as is_text, has_word as has_this_word, has_subtag}
 use Rattle.css_selectors.specs.Meanings.{holds, satisfies}
 use Rattle.css_laws.specs.Converted.{attribute_of}
 use Rattle.css_laws.specs.OneTree.{SuitsOperator}

@@ -10,7 +10,7 @@ use Rattle.std.proofs.lemmas.List.Elements.{All-head, All-tail}
 use Rattle.css_text.specs.AsciiBytes.{space}
 use Rattle.css_text.specs.Characters.{is_space}
 use Rattle.simplecss_selector.specs.Operators.{is_word_of as port_is_word_of}
-use Rattle.css_selectors.specs.AttributeTests.{begins, begins_up_to, is_word_of, is_some_text}
+use Rattle.css_selector_text.specs.AttributeTests.{begins, begins_up_to, is_word_of, is_some_text}
 use Rattle.css_laws.specs.OneTree.{HasOnlySpaces}
 
 pub turned : (x y : ℕ) → (x == y) ≡ (y == x)

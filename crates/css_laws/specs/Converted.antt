@@ -2,11 +2,11 @@
 use Rattle.std.specs.Prelude.{ℕ, false, List, [], ◌∷◌, map, Option, None, Some}
 use Rattle.css_matching.specs.declared.Combinator.{Combinator as ModernCombinator}
 use Rattle.css_matching.specs.declared.Combinator.TheVariants.{Descendant, Child, Adjacent}
-use Rattle.css_selectors.specs.Components.{Simple, Part, Selector}
-use Rattle.css_selectors.specs.Components.Comparison.{equals as is_text, has_word as has_this_word, has_subtag}
-use Rattle.css_selectors.specs.Components.Condition.{simple}
-use Rattle.css_selectors.specs.Components.Simple.{universal, type_name, has_attribute, attribute as compared, structure, language, state}
-use Rattle.css_selectors.specs.Components.Structure.{first_child as is_first_child}
+use Rattle.css_selector_text.specs.Components.{Simple, Part, Selector}
+use Rattle.css_selector_text.specs.Components.Comparison.{equals as is_text, has_word as has_this_word, has_subtag}
+use Rattle.css_selector_text.specs.Components.Condition.{simple}
+use Rattle.css_selector_text.specs.Components.Simple.{universal, type_name, has_attribute, attribute as compared, structure, language, state}
+use Rattle.css_selector_text.specs.Components.Structure.{first_child as is_first_child}
 use Rattle.simplecss_grammar.specs.Components.{Operator, KnownPseudoClass, Subselector, Combinator, Component}
 use Rattle.simplecss_grammar.specs.Components.Combinator.{none, descendant, child, adjacent}
 use Rattle.simplecss_grammar.specs.Components.KnownPseudoClass.{first_child, link, visited, hover, active, focus, lang}

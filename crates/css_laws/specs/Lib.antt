@@ -1,3 +1,6 @@
+pub mod Conditions
 pub mod Converted
+pub mod Devices
+pub mod Headline
 pub mod OneTree
 pub mod Pages

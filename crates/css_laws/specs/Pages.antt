@@ -6,9 +6,9 @@ use Rattle.simplecss_grammar.specs.Components.{Subselector, Component}
 use Rattle.simplecss_grammar.specs.Components.KnownPseudoClass.{first_child, link, visited, hover, active, focus, lang}
 use Rattle.simplecss_grammar.specs.Components.Operator.{exists, equals, has_word, begins_with}
 use Rattle.simplecss_grammar.specs.Components.Subselector.{attribute, pseudo_class}
-use Rattle.simplecss_tree.specs.Rows.{Row, IsMissing, new_child, with_attribute, with_states}
-use Rattle.simplecss_tree.specs.TreeNodes.{attribute_at}
-use Rattle.simplecss_tree.specs.declared.tree.States.{States}
+use Rattle.css_elements.specs.Rows.{Row, IsMissing, new_child, with_attribute, with_states}
+use Rattle.css_elements.specs.TreeNodes.{attribute_at}
+use Rattle.css_elements.specs.declared.tree.States.{States}
 use Rattle.css_text.specs.AsciiBytes.{hyphen}
 use Rattle.css_tree.specs.Languages.{is_wildcard}
 use Rattle.css_laws.specs.OneTree.{HasOnlySpaces}

@@ -1,10 +1,10 @@
 //! The lists that selectors ask by numbers.
 ghost use Rattle.std.specs.Prelude.{ℕ, ◌≡◌, suc, All, Bool, List, length};
-ghost use Rattle.css_selectors.specs.Components.{Selector};
-ghost use Rattle.css_selectors.specs.Names.{Names};
+ghost use Rattle.css_selector_text.specs.Components.{Selector};
+ghost use Rattle.css_selector_text.specs.Names.{Names};
 ghost use Rattle.css_selectors.specs.Numberings.{no_lists, numbered_selectors};
-ghost use Rattle.css_selectors.specs.Readings.{got};
-ghost use Rattle.css_selectors.specs.Supported.{supported_list};
+ghost use Rattle.css_selector_text.specs.reading.Readings.{got};
+ghost use Rattle.css_selector_text.specs.reading.Supported.{supported_list};
 ghost use Rattle.css_tree.specs.Asked.{AskBefore, SelectorAsksBelow};
 ghost use Rattle.css_sheet.specs.SheetOrder.{cascade_rules, nested_lists};
 ghost use Rattle.css_sheet.specs.Sheets.{SheetText};

@@ -10,7 +10,7 @@ ghost use Rattle.css_laws.specs.Converted.{converted};
 ghost use Rattle.css_laws.specs.Pages.{IsMade, HaveOnlySpaces, AreShared};
 
 /// On a page a selector of CSS 2.1 matches the elements that the modern one does to which it is converted.
-/// Elements of `css_tree` answer to both. The page's tree must be made by the calls of `simplecss_tree`,
+/// The page's tree must be made by the calls of `css_elements`,
 /// and no value of an attribute may have white space other than U+0020. Of the selector, `~=` must have a
 /// word that is not empty, and `:lang()` one subtag.
 pub fn page_law()
