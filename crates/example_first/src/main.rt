@@ -3,7 +3,7 @@
 
 use log::sink::Discard;
 use simplecss::{Selector, StyleSheet};
-use simplecss_tree::Tree;
+use simplecss_tree::{Nodes, Tree};
 use std::io;
 
 fn main(rt: HostRuntime) -> io::Result<()> {

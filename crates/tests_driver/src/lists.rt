@@ -1,10 +1,10 @@
 //! Lists of selectors on a tree.
 
 use crate::tree::{mark_texts, read_tree};
+use css_elements::Tree;
 use css_index::{HasSelector, SelectorIndex};
-use css_selectors::{Element, Nesting, Numbering, Selector, Specificity, Tests};
+use css_selectors::{Element, Matching, Nesting, Numbering, Selector, Specificity, Tests};
 use css_tree::{NumberedTree, TreeWalk};
-use simplecss_tree::Tree;
 use std::alloc::Global;
 use std::io;
 use std::io::{ErrorKind, Write};

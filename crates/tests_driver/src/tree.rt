@@ -1,8 +1,8 @@
 //! Reads trees. A line is an element, in document order. Its fields, which the byte 1 separates, are its
 //! depth, its name, `1` if it has a text of its own, and each attribute, as `name=value`.
 
+use css_elements::Tree;
 use css_tree::NumberedTree;
-use simplecss_tree::Tree;
 use std::alloc::Global;
 use std::io;
 

@@ -1,8 +1,11 @@
-//! How often elements are tested while a selector is matched.
+//! How often elements are tested while a selector is matched, rules are found, or a winner is sought.
 
-use css_selectors::{Element, NamespacedAttribute, Selector, Tests};
+use css_elements::Tree;
+use css_index::{Keyed, SelectorIndex};
+use css_selectors::{Element, Matching, NamespacedAttribute, Selector, Tests};
+use css_sheet::{SheetRule, read_sheet};
+use css_styles::{Own, winning};
 use css_tree::{NumberedNode, NumberedTree};
-use simplecss_tree::Tree;
 use std::alloc::Global;
 use std::cell::Cell;
 use std::test::Fail;
@@ -97,6 +100,26 @@ impl<'a, 'n, 'p, 't> Element for Counted<'a, 'n, 'p, 't> {
     }
 }
 
+impl<'a, 'n, 'p, 't> Keyed for Counted<'a, 'n, 'p, 't> {
+    ghost use Rattle.css_tree.specs.Reports.{reported_of, keys_reported};
+
+    ghost reported = { λ counted. reported_of counted.node };
+
+    ghost reported_law = { λ counted. keys_reported counted.node };
+
+    fn local_name(&self) -> &str {
+        self.node.local_name()
+    }
+
+    fn attribute_count(&self) -> usize {
+        self.node.attribute_count()
+    }
+
+    fn attribute_name(&self, index: usize) -> &str {
+        self.node.attribute_name(index)
+    }
+}
+
 /// Selectors of names, so that each test is one for a name; the answer on the last element of the
 /// tree, and the number of tests. The first has as many as its bound, which is 1 for each of the
 /// element and its three ancestors. The second has one for each compound selector, and the third none.
@@ -142,6 +165,60 @@ fn counts_tests(rt: HostRuntime) -> Result<(), Fail> {
             assert_eq!(rt; found, *answer, "the answer of {text}");
             assert_eq!(rt; names.get(), *tests, "the tests of {text}");
         }
+    }
+    Ok(())
+}
+
+/// Rules, and how often names are tested while the rules that match the last element are found by an
+/// index, and while the winner for `p` is sought. An index tests no rule of which the element does not
+/// report a key; a winner is sought among the rules that state the property, each of which is tested
+/// once.
+const SEARCHED: &[(&str, u64, u64)] = &[
+    ("*{p:q}", 0, 0),
+    ("c{p:q}", 1, 1),
+    ("b{p:q}", 0, 1),
+    ("a c{p:q}", 2, 2),
+    ("x c{p:q}", 4, 4),
+    ("x > c{p:q}", 2, 2),
+    ("b + c{p:q} x c{r:q}", 6, 2),
+    ("a c{p:q} x c{p:q} b + c{p:q} b > a{p:q}", 8, 9),
+];
+
+/// Returns how often names are tested while the rules are found, and while the winner is sought.
+fn tests_of(
+    alloc: Global,
+    rules: &[SheetRule<'static>],
+    node: NumberedNode<'_, '_, '_>,
+) -> Result<(u64, u64), Fail> {
+    let names = Cell::new(0);
+    let element = Counted {
+        node,
+        names: &names,
+    };
+    let index = SelectorIndex::new(alloc, rules)?;
+    index.matching(&element, &mut Vec::new(alloc))?;
+    let for_index = names.get();
+    let own = Own {
+        style: "",
+        presentation: "",
+    };
+    let _ = winning(alloc, rules, &element, own, "p")?;
+    Ok((for_index, names.get().saturating_sub(for_index)))
+}
+
+#[test]
+fn counts_searches(rt: HostRuntime) -> Result<(), Fail> {
+    let tree = seven_elements(rt.alloc())?;
+    let Ok(page) = NumberedTree::new(rt.alloc(), &tree) else {
+        return Err(Fail::from("not counted"));
+    };
+    for (text, for_index, for_winner) in SEARCHED {
+        let Ok(sheet) = read_sheet(rt.alloc(), text, usize::MAX, |_, _| false) else {
+            return Err(Fail::from("refused"));
+        };
+        let node = page.node(6).ok_or("no element")?;
+        let tests = tests_of(rt.alloc(), sheet.rules.as_slice(), node)?;
+        assert_eq!(rt; tests, (*for_index, *for_winner), "the tests of {text}");
     }
     Ok(())
 }

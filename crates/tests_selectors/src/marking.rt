@@ -1,9 +1,9 @@
 //! Lists that have a number: of selectors of which each is of a rule in the rule of the one before, and
 //! of pseudo-classes that are answered for all elements at once.
 
-use css_selectors::{Element, MarkedList, Nesting, Numbering, Selector, Specificity};
+use css_elements::Tree;
+use css_selectors::{Element, MarkedList, Matching, Nesting, Numbering, Selector, Specificity};
 use css_tree::{MarkingError, NumberedTree};
-use simplecss_tree::Tree;
 use std::alloc::Global;
 use std::test::Fail;
 

@@ -1,0 +1,17 @@
+//! Tests of the libraries that `cssq` is made of, and of the ready tree: what they read and print, the
+//! program's words, runs and warnings, which elements are matched, and how often they are tested. The
+//! crate has no item of its own, so that no library is proved twice for its tests.
+#![tactic(auto)]
+
+#[cfg(test)]
+mod counted;
+#[cfg(test)]
+mod matching;
+#[cfg(test)]
+mod printed;
+#[cfg(test)]
+mod program;
+#[cfg(test)]
+mod reading;
+#[cfg(test)]
+mod same;

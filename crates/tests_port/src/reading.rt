@@ -1,0 +1,8 @@
+//! What the library reads and prints: selectors, statements and sheets.
+
+mod cut_texts;
+mod errors;
+mod printing;
+mod selectors;
+mod sheets;
+mod statements;
