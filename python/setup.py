@@ -5,6 +5,7 @@ is compiled by cargo from the same sources as Rust (`tools/erase.py --c`), which
 `erased`.
 """
 
+import os
 import re
 import shutil
 import subprocess
@@ -29,7 +30,12 @@ NAME = {"win32": "simplecss.dll", "darwin": "libsimplecss.dylib"}.get(
     sys.platform, "libsimplecss.so"
 )
 PROVED = TOP / "out" / NAME
-WITHOUT = "install Rust, or run ./build library with the toolchain first (docs/INSTALL.md)"
+# The oldest Rust that compiles the library.
+LEAST = (1, 65)
+WITHOUT = (
+    "install Rust (on Debian 12 cargo-web), or run ./build library with the toolchain first"
+    " (docs/INSTALL.md)"
+)
 
 
 def write_erased(to: Path) -> None:
@@ -37,11 +43,37 @@ def write_erased(to: Path) -> None:
     subprocess.run([sys.executable, str(TOP / "tools" / "erase.py"), "--c", str(to)], check=True)
 
 
+def say(line: str) -> None:
+    """Writes a line to the terminal: pip shows what is printed only if something fails."""
+    print(line, file=sys.stderr, flush=True)
+    try:
+        with open("/dev/tty", "w", encoding="utf-8") as terminal:
+            print(f"simplecss: {line}", file=terminal)
+    except OSError:
+        pass
+
+
+def rust() -> "tuple[str, str]":
+    """Returns the path of cargo, and the version of its rustc, which can compile the library."""
+    cargo, rustc = shutil.which("cargo"), os.environ.get("RUSTC") or shutil.which("rustc")
+    if not cargo or not rustc:
+        name = "rustc" if cargo else "cargo"
+        raise SystemExit(f"{PROVED} is missing, and so is {name}: {WITHOUT}")
+    done = subprocess.run([rustc, "--version"], stdout=subprocess.PIPE, text=True, check=False)
+    found = re.search(r"(\d+)\.(\d+)", done.stdout)
+    least = ".".join(map(str, LEAST))
+    if not found or (int(found[1]), int(found[2])) < LEAST:
+        shown = done.stdout.strip() or "no version"
+        raise SystemExit(f"{rustc} says {shown}, and Rust {least} is needed: {WITHOUT}")
+    return cargo, done.stdout.strip()
+
+
 def compiled(folder: Path) -> Path:
     """Returns the library that cargo makes in this folder of the erased sources."""
-    cargo = shutil.which("cargo")
-    if not cargo:
-        raise SystemExit(f"{PROVED} is missing, and so is cargo: {WITHOUT}")
+    cargo, version = rust()
+    say(
+        f"there is no proved library in out/: cargo compiles one by {version}, in about two minutes"
+    )
     source = ERASED
     if not source.is_dir():
         source = folder / "erased"
@@ -63,7 +95,10 @@ class WithLibrary(build_py):
     """Copies the library into the package."""
 
     def run(self) -> None:
-        """Takes the proved library where there is one, and else compiles one."""
+        """Takes the proved library where there is one, and else compiles one. What an earlier build
+        left is not packed."""
+        if not self.editable_mode:
+            shutil.rmtree(Path(self.build_lib) / "simplecss", ignore_errors=True)
         super().run()
         with tempfile.TemporaryDirectory() as folder:
             library = PROVED if PROVED.is_file() else compiled(Path(folder))
@@ -97,6 +132,19 @@ class AnyPython(bdist_wheel):
         return ("py3", "none", super().get_tag()[2])
 
 
+def licences() -> None:
+    """Copies the licences of a checkout beside this file: setuptools packs those that lie here."""
+    for text in TOP.glob("LICENSE-*") if not ERASED.is_dir() else ():
+        shutil.copy(text, HERE)
+
+
+def licence() -> str:
+    """Returns the licence that pyproject.toml states."""
+    found = re.search(r'(?m)^licence = "(.*)"', (HERE / "pyproject.toml").read_text())
+    assert found
+    return found[1]
+
+
 def version() -> str:
     """Returns the version that the header states."""
     header = ERASED / "simplecss.h" if ERASED.is_dir() else TOP / "include" / "simplecss.h"
@@ -106,4 +154,5 @@ def version() -> str:
 
 
 COMMANDS = {"build_py": WithLibrary, "bdist_wheel": AnyPython, "sdist": WithSources}
-setup(version=version(), distclass=ForThisSystem, cmdclass=COMMANDS)
+licences()
+setup(version=version(), license=licence(), distclass=ForThisSystem, cmdclass=COMMANDS)

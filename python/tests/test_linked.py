@@ -9,6 +9,7 @@ import pickle
 import sys
 import tempfile
 import unittest
+import unittest.mock
 from contextlib import redirect_stderr, redirect_stdout
 
 sys.path.insert(0, os.path.join(os.path.dirname(os.path.abspath(__file__)), "..", "src"))
@@ -181,8 +182,6 @@ class Loaded(unittest.TestCase):
                     "    p { c:d; }",
                     "  }",
                     "}",
-                    "@import 'a' layer(x);",
-                    "@import 'b' print;",
                 )
             ),
         )
@@ -565,6 +564,149 @@ class Files(Site):
         self.assertEqual(inline(page, "p{b:c}", remove_classes=True).count("class=a"), 1)
 
 
+class Many(Site):
+    """Sheets that import others again and again."""
+
+    MORE = "the page names more than 256 sheets"
+
+    def asked(self, call, **sheets):
+        """Returns the urls that a call asks for, each time that it does."""
+        urls = []
+        call(lambda url: urls.append(url) or sheets.get(url))
+        return urls
+
+    def test_each_url_is_read_once(self):
+        page = "<link rel=stylesheet href=a><style>@import 'b'; @import 'a';</style><p>"
+        sheets = {
+            "a": "@import 'c'; p{color:red}",
+            "b": "@import 'c'; p{color:blue}",
+            "c": "",
+        }
+        tree = simplecss.Tree.from_html(page)
+        for call in (
+            lambda load: self.assertIn(
+                '<p style="color: red">',
+                inline(page, "@import 'c'; @import 'x'", load=load),
+            ),
+            lambda load: self.assertEqual(
+                # A sheet counts where it is imported last.
+                simplecss.StyleSheet.of_page(tree, load=load).style(tree, "color")[-1].value,
+                "red",
+            ),
+        ):
+            asked = self.asked(call, **sheets)
+            self.assertEqual(sorted(set(asked)), sorted(asked))
+            self.assertLessEqual(set("abc"), set(asked))
+
+    def test_what_is_missing_is_asked_for_once_and_named_each_time(self):
+        tree = simplecss.Tree.from_html("<style>@import 'a'; @import 'a#b';</style>")
+        asked = []
+        sheet = simplecss.StyleSheet.of_page(tree, load=asked.append)
+        self.assertEqual((asked, [each.url for each in sheet.unread]), (["a"], ["a", "a#b"]))
+
+    def test_a_query_makes_no_other_file(self):
+        words = [f"@import 'a.css?{each}';" for each in "abcdefg"]
+        page, _ = self.put(
+            p_html="<link rel=stylesheet href=a.css><p>",
+            a_css="".join(words) + "p{color:red} p:nope{a:b}",
+        )
+        text = (self.folder / "p.html").read_text("utf-8")
+        tree = simplecss.Tree.from_html(text)
+        found = simplecss.StyleSheet.of_page(tree, folder=self.folder)
+        self.assertEqual((len(found.rules), found.unread), (1, ()))
+        read = []
+        made = pathlib.Path.read_bytes
+        with unittest.mock.patch.object(
+            pathlib.Path,
+            "read_bytes",
+            lambda path: read.append(path.name) or made(path),
+        ):
+            for call, expected in (
+                (lambda: inline(text, folder=self.folder), ["a.css"]),
+                (lambda: run("inline", page), ["p.html", "a.css"]),
+                (lambda: run("match", page), ["p.html", "a.css"]),
+                (lambda: run("lint", page), ["p.html", "a.css"]),
+                # It finds the sheet, and then reads the page and the sheet.
+                (lambda: run("unused", page), ["p.html", "a.css", "a.css", "p.html"]),
+            ):
+                read.clear()
+                call()
+                self.assertEqual(read, expected)
+
+    def test_names_that_lead_to_different_places(self):
+        self.put(a_css="p{color:red}", b__a_css="p{color:blue}")
+        for href, color in (
+            ("/a.css", "red"),
+            ("a.css", "blue"),
+            ("a.css?b#c", "blue"),
+            (f"{self.folder.as_uri()}/a.css", "red"),
+            ("file:///a.css", None),
+        ):
+            for before in ("/a.css", "file:///a.css", "a.css"):
+                page = f"<link rel=stylesheet href={before}><link rel=stylesheet href={href}><p>"
+                at = self.folder / "b" / "p.html"
+                last = color_of(page, at=at, folder=self.folder)[0]
+                first = {"/a.css": "red", "a.css": "blue"}.get(before)
+                self.assertEqual(last, color or first, (before, href))
+
+    def test_at_most_256_sheets(self):
+        for count in (256, 257, 300):
+            links = "".join(f"<link rel=stylesheet href=a{each}>" for each in range(count))
+            tree = simplecss.Tree.from_html(links + "<p>")
+            asked = []
+            sheet = simplecss.StyleSheet.of_page(
+                tree, load=lambda url: asked.append(url) or f"p{{b:{url}}}"
+            )
+            last = min(count, 256) - 1
+            self.assertEqual(sheet.style(tree, "b")[-1].value, f"a{last}")
+            self.assertEqual((len(asked), len(sheet.rules)), (last + 1, last + 1))
+            self.assertEqual(
+                sheet.unread,
+                tuple((f"a{each}", self.MORE) for each in range(256, count)),
+            )
+            left = []
+            text = inline(links + "<p>", load=lambda url: f"p{{b:{url}}}", report=left)
+            self.assertEqual(text.count("<link"), count - last - 1)
+            self.assertEqual(
+                [tuple(each) for each in left],
+                [(f"a{each}", f"{self.MORE}: {LOSES}") for each in range(256, count)],
+            )
+
+    def test_imports_are_counted(self):
+        """Each sheet imports two more: 2^16 sheets."""
+        page = "<link rel=stylesheet href=a><p>"
+        tree = simplecss.Tree.from_html(page)
+        reasons = []
+        for call in (
+            lambda load: inline(page, load=load, report=reasons),
+            lambda load: reasons.extend(simplecss.StyleSheet.of_page(tree, load=load).unread),
+        ):
+            asked = []
+            call(lambda url: asked.append(url) or '@import "a/x";@import "b/x" layer(y);')
+            self.assertLessEqual(len(asked), 256)
+        self.assertIn(self.MORE, [each.reason for each in reasons])
+
+    def test_an_import_of_too_many_makes_no_layer(self):
+        links = "<link rel=stylesheet href=a>" * 256
+        page = f"{links}<style>@import 'b' layer(x); @layer y, x; @layer x{{p{{a:b}}}} @layer y{{p{{a:c}}}}"
+        tree = simplecss.Tree.from_html(page + "</style><p>")
+        sheet = simplecss.StyleSheet.of_page(tree, load=lambda url: "")
+        self.assertEqual(sheet.style(tree, "a")[-1].value, "b")
+
+    def test_a_sheet_that_is_read_again_takes_room(self):
+        page = "<link rel=stylesheet href=a.css>" * 30
+        self.put(a_css="p{a:b}" * 1000)
+        for call in (
+            lambda limit: inline(page, folder=self.folder, answer_limit=limit),
+            lambda limit: simplecss.StyleSheet.of_page(
+                simplecss.Tree.from_html(page), folder=self.folder, answer_limit=limit
+            ),
+        ):
+            with self.assertRaisesRegex(simplecss.LimitError, "characters of linked sheets"):
+                call(1_000_000)
+            call(2_000_000)
+
+
 class CommandLine(Site):
     def setUp(self):
         super().setUp()
@@ -578,7 +720,7 @@ class CommandLine(Site):
 
     def test_links_are_followed(self):
         self.assertEqual(
-            run("style", "color", self.page),
+            run("style", self.page, "color"),
             (0, f"{self.page}:1:74: <p> color: red\n", self.message),
         )
         self.assertEqual(
@@ -588,7 +730,23 @@ class CommandLine(Site):
         status, out, err = run("inline", self.page)
         self.assertEqual((status, '<p style="color: red">' in out, LOSES in err), (0, True, True))
         self.assertEqual(
-            run("style", "color", "--folder", str(self.folder / "b"), self.page)[1], ""
+            run("style", "--folder", str(self.folder / "b"), self.page, "color")[1], ""
+        )
+
+    def test_inline_reads_each_sheet_alone(self):
+        page, first, other, last = self.put(
+            f_html="<p class=a>x<b>y</b>",
+            f_css="b{color:red",
+            g_css="/* open",
+            h_css='@charset "utf-8"; @namespace n "u"; p{color:blue} p:hover{color:green}',
+        )
+        self.assertEqual(
+            run("inline", page, first, other, last)[:2],
+            (
+                0,
+                '<style>\n@charset "utf-8";\n@namespace n "u";\np:hover{color:green !important}\n'
+                '</style><p class=a style="color: blue">x<b style="color: red">y</b>',
+            ),
         )
 
     def test_lint_follows_links(self):
@@ -598,10 +756,10 @@ class CommandLine(Site):
             f"{os.path.realpath(sheet)}:1:16: 'broken': broken declaration\n",
             self.message,
         )
-        self.assertEqual(run("lint", self.page), found)
+        self.assertEqual(run("lint", "--ignore", "repeated-rule", self.page), found)
         # Once for all pages.
         (other,) = self.put(e_html="<link rel=stylesheet href=x.css>")
-        self.assertEqual(run("lint", self.page, other)[1], found[1])
+        self.assertEqual(run("lint", "--ignore", "repeated-rule", self.page, other)[1], found[1])
         self.assertEqual(run("lint", sheet, self.page)[1].count("broken declaration"), 1)
 
     def test_folders_and_patterns(self):
@@ -613,7 +771,7 @@ class CommandLine(Site):
         status, out, err = run("select", "p", str(self.folder / "none*"))
         self.assertEqual((status, out, "cannot read" in err), (4, "", True))
         self.assertEqual(
-            run("style", "color", str(self.folder / "x.css"), str(self.folder))[1].count(
+            run("style", str(self.folder / "x.css"), str(self.folder), "color")[1].count(
                 "color: red"
             ),
             2,

@@ -5,6 +5,7 @@ values are from the standards.
     python3 -m unittest discover python/tests
 """
 
+import contextlib
 import io
 import json
 import os
@@ -18,10 +19,7 @@ sys.path.insert(0, str(Path(__file__).resolve().parents[1] / "src"))
 import simplecss  # noqa: E402
 from simplecss import (
     __main__ as command,
-    _fixes,
     _lint,
-    _mistakes,
-    _names,
 )  # noqa: E402
 
 # A sheet for each of 19 mistakes that people make, and what is to be reported of it first: the kind,
@@ -57,6 +55,9 @@ PLANTED = (
     ("a { top: 0 } }\nb { left: 0 }", "stray-bracket", "}\nb", None),
     ("a, { top: 0 }", "invalid-selector", "a,", None),
 )
+# The document that explains the kinds, in a checkout.
+_PATH = Path(__file__).resolve().parents[2] / "docs/LINT.md"
+DOCUMENT = _PATH.read_text(encoding="utf-8") if _PATH.exists() else None
 # What is right, or meant: that is not reported.
 RIGHT = (
     "a { --colr: red; -webkit-colr: red; COLOR: red; zoom: 1 }",
@@ -71,7 +72,7 @@ RIGHT = (
     # Browsers take the last value that they support.
     "a { display: block; display: grid; color: red; color: rgb(1 2 3 / 4) }",
     "a { background: #fff; top: 0; background: linear-gradient(red, blue) }",
-    "a { text-decoration: x; -webkit-text-decoration: y; text-decoration: z }",
+    "a { text-decoration: none; -webkit-text-decoration: y; text-decoration: underline }",
     "a { top: 0; top: 1px !important }",
     "a { --x: very important; --y: a top: b }",
     # Hacks, for browsers of which each has its own.
@@ -148,6 +149,8 @@ class Mistakes(unittest.TestCase):
                 ["TOP: 0", "top: 2px"],
             ),
             ("a { --x: 0; top: 0; --x: 1 }", ["--x: 0"]),
+            # A custom property takes any value, so that none is for other browsers.
+            ("a { --x: 0; --x: var(--y, 1) }", ["--x: 0"]),
         ):
             found = [each.text for each in simplecss.lint(text)]
             self.assertEqual(found, expected, text)
@@ -207,6 +210,50 @@ class Mistakes(unittest.TestCase):
         self.assertEqual([each.text for each in found], ["colr", "top: 0"])
 
 
+class Values(unittest.TestCase):
+    def test_takes_value(self):
+        for name, value, expected in (
+            ("color", "red", True),
+            ("COLOR", "ReD", True),
+            ("margin", "1px auto", True),
+            ("color", "reed", False),
+            ("width", "1px 2px", False),
+            ("margin", "inherit 1px", False),
+            # What the table does not know.
+            ("width", "calc(1px + 2%)", None),
+            ("width", "-moz-available", None),
+            ("width", "1px\\9", None),
+            ("width", "", None),
+            ("--x", "red", None),
+            ("colr", "red", None),
+            ("color", "red\nred", None),
+            ("color:x", "red", None),
+        ):
+            self.assertIs(simplecss.takes_value(name, value), expected, (name, value))
+
+    def test_findings(self):
+        for text, expected in (
+            (
+                "a { color: reed; float: lef }",
+                [("invalid-value", "reed", "red"), ("invalid-value", "lef", "left")],
+            ),
+            (
+                "a { width: 100; margin: 0 5 }",
+                [("unit-missing", "100", None), ("unit-missing", "5", None)],
+            ),
+            ("a { border: 1px solide red }", [("invalid-value", "solide", "solid")]),
+            # The value of a descriptor is none of a property.
+            ("@font-face { font-style: oblique 1deg 2deg; src: url(a); font-display: swap }", []),
+            ("a { color: red\\9; color: #fff !ie; width: expression(1) }", []),
+        ):
+            found = [
+                each
+                for each in simplecss.lint(text)
+                if each.kind in ("invalid-value", "unit-missing")
+            ]
+            self.assertEqual([(each.kind, each.text, each.hint) for each in found], expected, text)
+
+
 class Kinds(unittest.TestCase):
     def test_ignore(self):
         text = "a { colr: red } b { }"
@@ -236,12 +283,48 @@ class Kinds(unittest.TestCase):
         self.assertEqual([each.text for each in _lint.findings("a.html", page)], ["tpo"])
 
     def test_each_is_explained(self):
+        """Each kind is found in a sheet with it alone, and not in the sheet without it."""
         reasons = {kind for _, kind, _, _ in PLANTED}
-        self.assertLessEqual(reasons, {_lint.kind_of(each) for each in _mistakes.KINDS})
+        kinds = {_lint.kind_of(each) for each in _lint.explained()}
+        self.assertLessEqual(reasons, kinds)
         page = Path(__file__).parents[1].joinpath("README.md").read_text(encoding="utf-8")
-        for reason, text in _mistakes.KINDS.items():
-            self.assertIn(f"  {_lint.kind_of(reason)} ", _lint.kinds())
-            self.assertIn(f"| `{_lint.kind_of(reason)}` | {text} |\n", page)
+        for each in _lint.explained().values():
+            kind = _lint.kind_of(each.reason)
+            self.assertIn(f"{kind} ", _lint.kinds())
+            self.assertIn(f"| `{kind}` | {each.severity} | {each.text} |\n", page)
+            wrong, right = (text.replace("\\n", "\n") for text in (each.wrong, each.right))
+            if wrong:
+                found = {one.kind for one in simplecss.lint(wrong)}
+                # The end of the text closes a block, too.
+                self.assertEqual(found - {"block-not-closed"} or found, {kind}, wrong)
+            self.assertEqual(simplecss.lint(right), [], right)
+            self.assertIn(each.text, _lint.explanation(kind))
+            if DOCUMENT is not None:
+                self.assertIn(
+                    f"## {kind}\n\n{each.severity.capitalize()}: {each.text}.\n", DOCUMENT
+                )
+                for word, css in (("wrong", wrong), ("right", right)) if wrong else ():
+                    self.assertIn(f"```css\n/* {word} */\n{css}\n```\n", DOCUMENT)
+
+    def test_severities(self):
+        for text, severity in (
+            ("a { colr: red }", "error"),
+            ("a { }", "warning"),
+            ("a { top: 0 } b { top: 0 } a { left: 0 }", "note"),
+        ):
+            self.assertEqual([each.severity for each in simplecss.lint(text)], [severity])
+
+    def test_explain(self):
+        for words, status, begins in (
+            (["--explain", "empty-rule"], 0, "empty-rule (warning): a rule without"),
+            (["--explain"], 0, "bad-string "),
+            (["--explain", "no-such-kind"], 2, ""),
+            ([], 2, ""),
+        ):
+            out = io.StringIO()
+            with redirect_stdout(out), redirect_stderr(io.StringIO()):
+                self.assertEqual(command.main(["lint", *words]), status)
+            self.assertTrue(out.getvalue().startswith(begins), words)
 
 
 # Selectors, of which each page has an element or none has.
@@ -325,6 +408,10 @@ class Usage(unittest.TestCase):
         return status, out.getvalue()
 
 
+# What a message has of what was probably meant.
+HINT = " (did you mean 'color'?)"
+
+
 class Fixes(unittest.TestCase):
     def test_fixes(self):
         for text, expected in (
@@ -348,7 +435,7 @@ class Fixes(unittest.TestCase):
             ("a { top: 0; left: 0; top: 1px } b { } c { d }", None),
             ("a { colr: red } /* simplecss-ignore */", None),
         ):
-            self.assertEqual(_fixes.fixed(text), expected or text)
+            self.assertEqual(_lint.fixed(text), expected or text)
 
     def test_command(self):
         with tempfile.TemporaryDirectory() as folder:
@@ -361,32 +448,57 @@ class Fixes(unittest.TestCase):
             expected = "\ufeffé { color: red;\r\n src: x }\r\n".encode("utf-8")
             self.assertEqual(Path(sheet).read_bytes(), expected)
 
+    def test_standard_input(self):
+        """The corrected text is written, and what is left is reported on standard error."""
+        for words, text, status, output, errors in (
+            (("--fix",), "a{colr:red}", 0, "a{color:red}", ""),
+            (("--fix",), "a{color:red}\n", 0, "a{color:red}\n", ""),
+            (
+                ("--fix",),
+                "é{colr:red;src:x}\n",
+                1,
+                "é{color:red;src:x}\n",
+                "-:1:13: 'src': unknown property\n",
+            ),
+            ((), "a{colr:red}", 1, f"-:1:3: 'colr': unknown property{HINT}\n", ""),
+        ):
+            out, error = io.StringIO(), io.StringIO()
+            with redirect_stdout(out), redirect_stderr(error), given(text):
+                self.assertEqual(command.main(["lint", *words, "-"]), status, text)
+            self.assertEqual((out.getvalue(), error.getvalue()), (output, errors), text)
+
+
+@contextlib.contextmanager
+def given(text):
+    """Gives a text on standard input."""
+    old = sys.stdin
+    sys.stdin = io.TextIOWrapper(io.BytesIO(text.encode("utf-8")))
+    try:
+        yield
+    finally:
+        sys.stdin = old
+
 
 class Names(unittest.TestCase):
-    def test_lists(self):
-        """Each name is in one list, and none that Chromium knows is among the others."""
-        for kind in ("pseudo-classes", "pseudo-elements"):
-            both = (*_names.names_of(kind), *_names.names_of(f"other {kind}"))
-            self.assertEqual(len(both), len(set(both)))
-        others = _names.names_of("properties")
-        self.assertEqual(set(others) & set(_names.property_names()), set())
-        self.assertEqual(len(others), len(set(others)))
-
     def test_nearest(self):
-        known = _names.Names(("left", "float", "flow", "order"))
+        """A letter too many, too few or another, or two that are exchanged. Of several names the first by
+        the alphabet with the same first letter."""
         for name, expected in (
             ("lef", "left"),
             ("lfet", "left"),
             ("lest", "left"),
             ("leeft", "left"),
             ("flot", "float"),
-            ("flo", "flow"),
             ("boat", None),
             ("odrer", "order"),
-            ("", None),
+            ("flaot", "float"),
+            ("tfloa", None),
+            ("colör", "color"),
+            ("le", None),
             ("x" * 1000, None),
         ):
-            self.assertEqual(known.nearest(name), expected, name)
+            found = [each.hint for each in simplecss.lint(f"a {{ {name}: 0 }}")]
+            self.assertEqual(found, [expected], name)
 
 
 if __name__ == "__main__":

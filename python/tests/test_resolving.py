@@ -5,9 +5,11 @@ The expected values are those of CSS Custom Properties for Cascading Variables 1
 
 from __future__ import annotations
 
+import collections
 import contextlib
 import os
 import sys
+import types
 import unittest
 from typing import Dict, List
 from unittest import mock
@@ -18,8 +20,6 @@ from simplecss import (  # noqa: E402
     LimitError,
     StyleSheet,
     Tree,
-    is_inherited,
-    is_valid_value,
     longhands,
     resolve,
     shorthands,
@@ -91,6 +91,36 @@ class UserAgent(unittest.TestCase):
             "list-style-type: disc",
         )
 
+    def test_logical_names(self):
+        tree = Tree.from_html("<p><h1><ul>")
+        sheet = StyleSheet("")
+        for name, kind, value in (
+            ("margin-top", "p", "1em"),
+            ("margin-top", "h1", "0.67em"),
+            ("margin-bottom", "ul", "1em"),
+            ("padding-left", "ul", "40px"),
+        ):
+            found = sheet.style(tree, name, ua=True, shorthands=True)[tree.select_one(kind)]
+            self.assertEqual(found and found.value, value)
+        for text, due in (
+            ("p { margin-top: 1px; margin-block: 2px }", "margin-block: 2px"),
+            ("p { margin-block-start: 1px; margin: 2px }", "margin: 2px"),
+            (
+                "p { width: 1px; inline-size: 2px !important } p { width: 3px }",
+                "inline-size: 2px !important",
+            ),
+        ):
+            asked = (
+                ("width", "inline-size")
+                if "width" in text
+                else ("margin-top", "margin-block-start")
+            )
+            for name in asked:
+                found = StyleSheet(text).style(tree, name, shorthands=True)
+                self.assertEqual(str(found[tree.select_one("p")]), due)
+        found = sheet.style(tree, "margin-left", ua=True, shorthands=True)[tree.select_one("p")]
+        self.assertIsNone(found)
+
     def test_devices(self) -> None:
         """They are those of each tree, also where one sheet is asked again."""
         sheet = StyleSheet("b { top: 1px }")
@@ -144,19 +174,6 @@ class Resolved(unittest.TestCase):
         self.assertEqual(found[0], {"--x": "blue", "color": "1px"})
         self.assertNotIn("margin", by_name("div{margin:var(--nothing)}")[0])
 
-    def test_circles(self) -> None:
-        """Those of a circle are invalid, and those that only lead to one take their fallbacks."""
-        circle = [
-            ("--a", "var(--b) var(--c)"),
-            ("--b", "var(--a, 1)"),
-            ("--c", "var(--b, 1)"),
-        ]
-        self.assertEqual(computed([*circle, ("--d", "var(--a, 1)")]), [None, None, None, "1"])
-        alone = [("--a", "var(--a) var(--b)"), ("--b", "var(--a, 1)")]
-        self.assertEqual(computed(alone), [None, None])
-        # A fallback that is not needed is not read.
-        self.assertEqual(computed([("--a", "var(--x, var(--a))"), ("--x", "1")]), ["1", "1"])
-
     def test_registered(self) -> None:
         """A registered property has its initial value, and parents hand it down if it says so (CSS
         Properties and Values API 1, section 2)."""
@@ -176,36 +193,6 @@ class Resolved(unittest.TestCase):
         found = by_name(rules + "div{--z:initial}p{--z:var(--q)}b{left:var(--z,none)}")
         self.assertEqual([each.get("--z") for each in found], ["a", None, None, None])
         self.assertEqual(found[2]["left"], "none")
-
-    def test_keywords(self) -> None:
-        """A keyword may be what a value comes to."""
-        rule = '@property --r{syntax:"<n>";inherits:false;initial-value:1}'
-        rules = [(rule[10:13], rule[14:-1])]
-        for value, due in (
-            ("inherit", "2"),
-            ("unset", "1"),
-            ("initial", "1"),
-            ("var(--q)", "1"),
-        ):
-            for text in (value, f"var(--q, {value})"):
-                self.assertEqual(computed([("--r", text)], [("--r", "2")], rules), [due], text)
-        for value, plain in (("inherit", "2"), ("unset", "2"), ("initial", None)):
-            self.assertEqual(computed([("--s", f"var(--q,{value})")], [("--s", "2")]), [plain])
-
-    def test_names(self) -> None:
-        """Names compare as they are, but for escapes."""
-        values = computed([("--\\61", "1"), ("x", "var(--a) var(--A,2) VAR(--a)")])
-        self.assertEqual(values, ["1", "1 2 1"])
-
-    def test_seams(self) -> None:
-        """A comment keeps tokens apart."""
-        pairs = [
-            ("--a", "1"),
-            ("x", "var(--a)var(--a)"),
-            ("y", "var(--a)%"),
-            ("z", "var(--a) 2"),
-        ]
-        self.assertEqual(computed(pairs)[1:], ["1/**/1", "1/**/%", "1 2"])
 
     def test_limits(self) -> None:
         """What doubles is cut off."""
@@ -232,10 +219,6 @@ class Resolved(unittest.TestCase):
 
 class Names(unittest.TestCase):
     def test_shorthands(self) -> None:
-        sides = ("margin-top", "margin-right", "margin-bottom", "margin-left")
-        self.assertEqual(longhands("Margin"), sides)
-        self.assertEqual(longhands("margin-left"), ())
-        self.assertEqual(shorthands("margin-left"), ("all", "margin"))
         self.assertEqual(
             set(shorthands("border-top-color")) & {"border", "border-top"},
             {"border", "border-top"},
@@ -252,12 +235,6 @@ class Names(unittest.TestCase):
             found = sheet.style(tree, name, shorthands=True)
             self.assertEqual(str(found[len(tree) - 1]), text)
 
-    def test_inherited(self) -> None:
-        for name in ("color", "--x", "font", "LINE-HEIGHT", "fill", "white-space"):
-            self.assertTrue(is_inherited(name), name)
-        for name in ("margin", "width", "border", "x-color"):
-            self.assertFalse(is_inherited(name), name)
-
     def test_resolve(self) -> None:
         """What the other packages return (CSS Variables 1, sections 2.3 and 3)."""
         own = [
@@ -267,23 +244,27 @@ class Names(unittest.TestCase):
             ("x", "[var(--é)]"),
         ]
         own.append(("--é", "é"))
-        self.assertEqual(resolve(own, [("--m", "blue")]), ["blue", None, None, "[é]", "é"])
         self.assertEqual(resolve(own, limit=2), [None, None, None, None, "é"])
         rules = [("--m", 'syntax: "*"; inherits: false; initial-value: green')]
         self.assertEqual(resolve(iter(own), [("--m", "blue")], registered=rules)[0], "green")
 
-    def test_valid(self) -> None:
-        for value in ("red", "var(--a)", "f(var( --a , ))", "var(--a,var(--b))"):
-            self.assertTrue(is_valid_value(value), value)
-        for value in (
-            "var(a)",
-            "var(--a b)",
-            "var()",
-            "var(--)",
-            "var(--a,var(b))",
-            "var(--a,!)",
-        ):
-            self.assertFalse(is_valid_value(value), value)
+    def test_mappings_are_pairs(self) -> None:
+        rule = 'syntax: "*"; inherits: false; initial-value: green'
+        for kind in (dict, collections.OrderedDict, types.MappingProxyType):
+            self.assertEqual(
+                resolve(
+                    kind({"color": "var(--a) var(--b)"}),
+                    kind({"--a": "blue"}),
+                    registered=kind({"--b": rule}),
+                ),
+                ["blue green"],
+            )
+        for pairs in (["ab"], [("a",)], [("a", "b", "c")], [("a", 1)], [(b"a", "b")], [None], 5):
+            for words in ((pairs,), ((), pairs)):
+                with self.assertRaises(TypeError):
+                    resolve(*words)
+            with self.assertRaises(TypeError):
+                resolve((), registered=pairs)
 
 
 if __name__ == "__main__":

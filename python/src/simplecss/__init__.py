@@ -11,20 +11,39 @@ Every call may be made from any thread.
 
 TYPE_CHECKING = False
 if TYPE_CHECKING:
+    from ._clean import (
+        Cleaned,
+        CSSSanitizer,
+        Dropped,
+        Policy,
+        clean,
+        clean_style,
+        is_clean,
+        is_clean_style,
+    )
     from ._declaration import Declaration
     from ._device import Device
     from ._elements import TreeError
     from ._found_names import Name
     from ._inline import Inliner, inline
-    from ._library import LibraryError, LimitError, __version__, is_proved, library_path
+    from ._library import (
+        InternalError,
+        LibraryError,
+        LimitError,
+        __version__,
+        is_proved,
+        library_path,
+    )
     from ._linked import Unread
-    from ._lint import Finding, lint
+    from ._lint import Finding, lint, takes_value
     from ._minify import minify, prettify
-    from ._properties import is_inherited, is_valid_value, longhands, shorthands
+    from ._properties import has_valid_references, is_inherited, longhands, shorthands
+    from ._properties import has_valid_references as is_valid_value
     from ._reading import AtRule, Condition, declarations
     from ._resolving import resolve
-    from ._selectors import Selector, SelectorError
-    from ._sheet import Rule, Skipped, StyleSheet, Unsupported
+    from ._selector import Selector
+    from ._selectors import SelectorError
+    from ._sheet import ByElement, ByName, Rule, Skipped, StyleSheet, Unsupported
     from ._split import NotWritten
     from ._tokens import Token, escape, quote, tokens
     from ._tree import Element, Item, Tree
@@ -34,17 +53,24 @@ if TYPE_CHECKING:
 
 __all__ = [
     "AtRule",
+    "ByElement",
+    "ByName",
+    "CSSSanitizer",
+    "Cleaned",
     "Condition",
     "Declaration",
     "Device",
+    "Dropped",
     "Element",
     "Finding",
     "Inliner",
+    "InternalError",
     "Item",
     "LibraryError",
     "LimitError",
     "Name",
     "NotWritten",
+    "Policy",
     "Rule",
     "Selector",
     "SelectorError",
@@ -57,12 +83,16 @@ __all__ = [
     "Unsupported",
     "Unused",
     "__version__",
+    "clean",
+    "clean_style",
     "declarations",
     "escape",
+    "has_valid_references",
     "inline",
+    "is_clean",
+    "is_clean_style",
     "is_inherited",
     "is_proved",
-    "is_valid_value",
     "library_path",
     "lint",
     "longhands",
@@ -71,44 +101,60 @@ __all__ = [
     "quote",
     "resolve",
     "shorthands",
+    "takes_value",
     "tokens",
 ]
 
 if not TYPE_CHECKING:
+    import sys as _sys
+
     # The names of each module, which is imported when one of them is first used.
     _NAMES = {
+        "_clean": "CSSSanitizer Cleaned Dropped Policy clean clean_style is_clean is_clean_style",
         "_declaration": "Declaration",
         "_device": "Device",
         "_elements": "TreeError",
         "_found_names": "Name",
         "_inline": "Inliner inline",
-        "_library": "LibraryError LimitError __version__ is_proved library_path",
+        "_library": "InternalError LibraryError LimitError __version__ is_proved library_path",
         "_linked": "Unread",
-        "_lint": "Finding lint",
+        "_lint": "Finding lint takes_value",
         "_minify": "minify prettify",
-        "_properties": "is_inherited is_valid_value longhands shorthands",
+        "_properties": "has_valid_references is_inherited longhands shorthands",
         "_reading": "AtRule Condition declarations",
         "_resolving": "resolve",
-        "_selectors": "Selector SelectorError",
-        "_sheet": "Rule Skipped StyleSheet Unsupported",
+        "_selector": "Selector",
+        "_selectors": "SelectorError",
+        "_sheet": "ByElement ByName Rule Skipped StyleSheet Unsupported",
         "_split": "NotWritten",
         "_tokens": "Token escape quote tokens",
         "_tree": "Element Item Tree",
         "_unused": "Unused",
     }
+    # What names of an earlier version are now.
+    _OLD = {"Unmatched": "Unsupported", "is_valid_value": "has_valid_references"}
     _MODULES = {name: module for module in _NAMES for name in _NAMES[module].split()}
+
+    def _show_public() -> None:
+        """Gives each class that is loaded the name by which it is imported."""
+        for module, names in _NAMES.items():
+            loaded = _sys.modules.get(f"{__name__}.{module}")
+            for each in map(vars(loaded).get, names.split()) if loaded else ():
+                if isinstance(each, type):
+                    each.__module__ = __name__
 
     def __getattr__(name: str) -> object:
         """Returns what a name denotes, also an old one."""
         from importlib import import_module
 
-        if name == "Unmatched":
+        if name in _OLD:
             old = import_module("._deprecated", __name__)
-            old.warn_of_old("simplecss.Unmatched", "simplecss.Unsupported")
-            return __getattr__("Unsupported")
+            old.warn_of_old(f"simplecss.{name}", f"simplecss.{_OLD[name]}")
+            return __getattr__(_OLD[name])
         if name not in _MODULES:
             raise AttributeError(f"module {__name__!r} has no attribute {name!r}")
         globals()[name] = found = getattr(import_module("." + _MODULES[name], __name__), name)
+        _show_public()
         return found
 
     def __dir__() -> "list[str]":

@@ -1,10 +1,16 @@
-"""The command line: `python3 -m simplecss match|select|style|inline|lint|minify|unused`."""
+"""The command line: `python3 -m simplecss COMMAND`, of which `--help` shows all."""
 
 from __future__ import annotations
+
+from . import _interrupt
+
+# What is imported after this takes a while.
+_interrupt.end_at_once()
 
 import argparse
 import concurrent.futures
 import glob
+import io
 import multiprocessing
 import os
 import sys
@@ -19,11 +25,15 @@ from typing import (
     NamedTuple,
     Optional,
     Sequence,
+    TextIO,
     Tuple,
     Type,
+    cast,
 )
 
 from . import _jobs, _lint
+from ._clean import POLICIES
+from ._completions import SHELLS
 from ._device import TYPES, Device
 from ._elements import TreeError
 from ._jobs import (
@@ -37,18 +47,22 @@ from ._jobs import (
     Job,
     Outcome,
 )
-from ._library import LibraryError, LimitError, __version__
+from ._library import InternalError, LibraryError, LimitError, __version__
 from ._output import json_line, printable, printable_lines
+from ._project import Project, ProjectError, files_in, is_excluded, project_of
 from ._selectors import MODERN, PORT, TODAY, SelectorError
-from ._sheet import StyleSheet, usage_of
+from ._server import Server
+from ._sheet import sheet_of_texts, usage_of
 from ._tree import Tree, elements_of
+from ._watch import repeat
 from ._words import words_of
+from ._writing import abandon, write_file
 from ._xml import is_xml
-
-INTERRUPTED = 130
 
 # After how many seconds a bar of progress is shown.
 _PATIENCE = 2.0
+# What the lists of operands are called.
+_LISTS = ("files", "pages", "sheets")
 # From how many pages on they are shared out among processes, which take a while to begin.
 _MANY = 8
 
@@ -59,13 +73,16 @@ class _Progress:
     def __init__(self) -> None:
         self.done = 0
         self.count = 0
+        # Whether nothing is done, but files are watched.
+        self.is_idle = False
         self._start = time.monotonic()
         self._is_shown = False
 
     def show(self) -> None:
         """Writes the bar, if the work takes long."""
         seconds = time.monotonic() - self._start
-        if seconds < _PATIENCE or sys.stderr is None or not sys.stderr.isatty():
+        is_shown = sys.stderr is not None and sys.stderr.isatty()
+        if self.is_idle or seconds < _PATIENCE or not is_shown:
             return
         filled = 20 * self.done // max(self.count, 1)
         bar = "#" * filled + "." * (20 - filled)
@@ -91,14 +108,19 @@ class _File(NamedTuple):
     inner: str
 
 
+def _is_linted(name: str) -> bool:
+    """Whether a file of a folder is one that `lint` reads."""
+    return _is_wanted(name, True) or _lint.is_component(name)
+
+
 def _is_wanted(name: str, has_sheets: bool) -> bool:
     """Whether a file of a folder is a page, or a sheet where these are asked for."""
     return _lint.is_page(name) or has_sheets and name.lower().endswith(".css")
 
 
-def _files_of(name: str, has_sheets: bool = False) -> List[_File]:
+def _files_of(name: str, has_sheets: bool = False, has_components: bool = False) -> List[_File]:
     """Returns the files that a word names: one, those of a pattern, or the pages in a folder, and
-    the sheets where these are asked for."""
+    the sheets and the components where these are asked for."""
     if name == INPUT or os.path.isfile(name):
         return [_File(name, os.path.basename(name))]
     if os.path.isdir(name):
@@ -106,7 +128,7 @@ def _files_of(name: str, has_sheets: bool = False) -> List[_File]:
         return [
             _File(each, os.path.relpath(each, name))
             for each in every
-            if _is_wanted(each, has_sheets)
+            if _is_wanted(each, has_sheets) or has_components and _lint.is_component(each)
         ]
     found = sorted(glob.glob(name, recursive=True)) if glob.has_magic(name) else []
     files = [_File(each, os.path.basename(each)) for each in found if os.path.isfile(each)]
@@ -189,13 +211,31 @@ def _read_pages(words: argparse.Namespace) -> int:
     return _show_each(words, pages)[0]
 
 
+def _is_file(word: str) -> bool:
+    """Whether a word names files: by its extension, as a pattern, or since there is one."""
+    return word == INPUT or word.lower().endswith(".css") or _is_pages(word) or os.path.exists(word)
+
+
+def _style(words: argparse.Namespace) -> int:
+    """Writes what wins of the property that the last word names, as for `cssq`. An earlier version
+    took the first."""
+    if len(words.files) < 2:
+        raise Failure("style wants a PAGE and a NAME", USAGE)
+    if _is_file(words.files[-1]) and not _is_file(words.files[0]):
+        _say(f"style NAME PAGE is now style PAGE NAME: the name {words.files[0]} comes last")
+        words.name, *words.files = words.files
+    else:
+        *words.files, words.name = words.files
+    return _read_pages(words)
+
+
 def _select(words: argparse.Namespace) -> int:
     pages = [each for name in words.pages for each in _files_of(name)]
     words.is_of_many = len(pages) > 1
     try:
         Tree().select(words.selectors, grammar=words.grammar)
     except SelectorError as error:
-        raise Failure(f"selector refused: {error}", REFUSED) from None
+        raise Failure(f"selector refused: {error.message}", REFUSED) from None
     status, found = _show_each(words, pages)
     return status or (REFUSED if words.quiet and not found else DONE)
 
@@ -205,12 +245,57 @@ def _inline(words: argparse.Namespace) -> int:
     return _write_each(words, pages, "pages")
 
 
-def _minify(words: argparse.Namespace) -> int:
+def _watched(words: argparse.Namespace) -> List[str]:
+    """Returns the files that a command reads: those that its words name, and the sheets that pages link
+    to."""
+    named = [each.name for name in words.operands(words) for each in _files_of(name, True)]
+    pages = [name for name in named if _lint.is_page(name)]
+    files = []
+    for outcome in map(_jobs.Linked(words, False), pages):
+        files += outcome.output.decode("utf-8", "surrogateescape").split("\0")[:-1]
+    return list(dict.fromkeys([*named, *files]))
+
+
+def _run_watching(words: argparse.Namespace) -> int:
+    """Runs a command each time that one of its files changes, until it is interrupted."""
+    if INPUT in words.operands(words):
+        raise Failure("standard input cannot be watched", USAGE)
+
+    def run() -> None:
+        _progress.is_idle = False
+        try:
+            words.run(words)
+        except Failure as failure:
+            _say(str(failure))
+        sys.stdout.flush()
+        _progress.clear()
+        _progress.is_idle = True
+
+    repeat(run, lambda: _watched(words))
+    return DONE
+
+
+def _complete(words: argparse.Namespace) -> int:
+    sys.stdout.write(SHELLS[words.shell](_parser()))
+    return DONE
+
+
+def _sheets_of(words: argparse.Namespace) -> List[_File]:
+    """Returns the style sheets that words name."""
     pages = [name for name in words.sheets if _lint.is_page(name)]
     if pages:
-        raise Failure(f"{pages[0]} is no style sheet", USAGE)
+        raise Failure(f"{pages[0]} is not a style sheet", USAGE)
     files = [each for name in words.sheets for each in _files_of(name, True)]
-    return _write_each(words, [each for each in files if not _lint.is_page(each.name)], "sheets")
+    return [each for each in files if not _lint.is_page(each.name)]
+
+
+def _minify(words: argparse.Namespace) -> int:
+    return _write_each(words, _sheets_of(words), "sheets")
+
+
+def _clean(words: argparse.Namespace) -> int:
+    files = _sheets_of(words)
+    return _show_each(words, files)[0] if words.check else _write_each(words, files, "sheets")
 
 
 def _write_each(words: argparse.Namespace, pages: Sequence[_File], kind: str) -> int:
@@ -233,16 +318,28 @@ def _write_each(words: argparse.Namespace, pages: Sequence[_File], kind: str) ->
         if outcome.status == DONE:
             try:
                 path.parent.mkdir(parents=True, exist_ok=True)
-                path.write_bytes(outcome.output)
+                write_file(path, outcome.output)
             except OSError as error:
                 raise Failure(f"cannot write {path}: {error.strerror}", UNREADABLE) from None
     return status
 
 
-def _is_selected(kind: str, words: argparse.Namespace) -> bool:
-    """Whether findings of a kind are asked for, by the beginnings of kinds."""
-    selected = not words.select or kind.startswith(tuple(words.select))
-    return selected and not (words.ignore and kind.startswith(tuple(words.ignore)))
+def _project(words: argparse.Namespace) -> Project:
+    """Returns the settings of the project that the current folder is in."""
+    try:
+        return Project() if words.no_project else project_of(".")
+    except ProjectError as error:
+        raise Failure(str(error), USAGE) from None
+
+
+def _names_of(word: str, words: argparse.Namespace, project: Project) -> List[str]:
+    """Returns the names of the files that a word names: one, or each of a folder or a pattern that
+    the project does not leave out."""
+    if os.path.isdir(word) and not words.no_project:
+        return files_in(word, _is_linted, project)
+    found = [each.name for each in _files_of(word, True, True)]
+    is_named = os.path.isfile(word) or words.no_project or not glob.has_magic(word)
+    return [each for each in found if is_named or not is_excluded(each, project)]
 
 
 def _bold(text: str) -> str:
@@ -250,27 +347,62 @@ def _bold(text: str) -> str:
     return f"\033[1m{text}\033[0m" if sys.stdout.isatty() else text
 
 
+def _explain(words: Sequence[str]) -> int:
+    """Writes what kinds are, or a line for each of all."""
+    if not words:
+        sys.stdout.write(_lint.kinds())
+        return DONE
+    found = [_lint.explanation(each) for each in words]
+    for word, text in zip(words, found):
+        if text is None:
+            raise Failure(f"unknown kind '{word}'", USAGE)
+        sys.stdout.write(text)
+    return DONE
+
+
 def _lint_files(words: argparse.Namespace) -> int:
-    names = [each.name for name in words.sheets for each in _files_of(name, True)]
+    if words.explain:
+        return _explain(words.sheets)
+    if not words.sheets:
+        raise Failure("lint wants a FILE", USAGE)
+    project = _project(words)
+    names = [name for word in words.sheets for name in _names_of(word, words, project)]
     found: List[_lint.Finding] = []
     status = DONE
     # A sheet that several pages link to is reported once.
     seen = {os.path.realpath(name) for name in names}
-    for outcome in _each(words.job(words, False), names):
+    for outcome in _each(words.job(words, sys.stdout.isatty()), names):
         _say_all(outcome)
+        _write(outcome.output)
         status = outcome.status or status
         linked = {each.file for each in outcome.mistakes} - {outcome.name}
         old = {file for file in linked if os.path.realpath(file) in seen}
         seen.update(os.path.realpath(file) for file in linked)
         those = (each for each in outcome.mistakes if each.file not in old)
-        found += [each for each in those if _is_selected(each.kind, words)]
+        asked = words.select or (), words.ignore or ()
+        found += [each for each in those if project.reports(each.kind, *asked)]
+    # What is corrected of standard input is on standard output.
+    stream = sys.stderr if words.fix and INPUT in names else sys.stdout
+    _report(words, found, len(names), stream, project)
+    return status or (REFUSED if found else DONE)
+
+
+def _report(
+    words: argparse.Namespace,
+    found: Sequence[_lint.Finding],
+    count: int,
+    stream: Optional[TextIO],
+    project: Project,
+) -> None:
+    """Writes what was found in so many files, if there is where to."""
+    if stream is None:
+        return
     form = "json" if words.json else words.format
     write = _lint.FORMATS.get(form)
-    sys.stdout.write(write(found) if write else _lint.as_text(found, _bold))
-    if not write and sys.stdout.isatty():
+    stream.write(write(found, project.level) if write else _lint.as_text(found, _bold))
+    if not write and stream.isatty():
         files = len({each.file for each in found})
-        print(f"{len(found)} findings in {files} of {len(names)} files")
-    return status or (REFUSED if found else DONE)
+        stream.write(f"{len(found)} findings in {files} of {count} files\n")
 
 
 def _linked_files(words: argparse.Namespace, pages: Sequence[_File]) -> Tuple[int, List[str]]:
@@ -279,7 +411,7 @@ def _linked_files(words: argparse.Namespace, pages: Sequence[_File]) -> Tuple[in
     for outcome in _each(_jobs.Linked(words, False), [each.name for each in pages]):
         _say_all(outcome)
         status = max(status, outcome.status)
-        files += outcome.output.decode("utf-8").split("\0")[:-1]
+        files += outcome.output.decode("utf-8", "surrogateescape").split("\0")[:-1]
     _progress.done = 0
     return status, list(dict.fromkeys(files))
 
@@ -291,14 +423,16 @@ def _unused(words: argparse.Namespace) -> int:
         status, names = _linked_files(words, pages)
     if status != DONE:
         return status
-    usage = usage_of(StyleSheet(*map(_jobs.read, names)))
+    usage = usage_of(sheet_of_texts(map(_jobs.read, names)))
     _progress.count = len(pages)
     for name, _ in pages:
-        tree = _jobs.tree_of(name, _jobs.read_page(name), words.xml or is_xml(name))
+        has_xml = words.xml or is_xml(name)
+        tree = _jobs.tree_of(name, _jobs.read_page(name, has_xml), has_xml)
         usage.see(elements_of(tree))
         _progress.done += 1
     if words.print:
-        _write("".join(usage.used()).encode("utf-8"))
+        text = "".join(usage.used())
+        _write((printable_lines(text) if sys.stdout.isatty() else text).encode("utf-8"))
         return DONE
     for each in usage.unused():
         file = names[each.source]
@@ -312,6 +446,20 @@ def _unused(words: argparse.Namespace) -> int:
     return DONE
 
 
+def _serve(words: argparse.Namespace) -> int:
+    """Answers an editor until it says to end."""
+    if sys.stdin is None:
+        raise Failure("standard input is closed", UNREADABLE)
+    _progress.is_idle = True
+
+    def write(data: bytes) -> None:
+        _write(data)
+        sys.stdout.buffer.flush()
+
+    stream = cast(io.BufferedReader, sys.stdin.buffer)
+    return Server(stream.read1, write).run()
+
+
 _Run = Callable[[argparse.Namespace], int]
 
 
@@ -323,7 +471,7 @@ class _ArgumentParser(argparse.ArgumentParser):
         stream = sys.stderr if file is None else file
         if message and stream is not None:
             # It may have the name of a file.
-            stream.write(printable_lines(message))
+            stream.write("\n".join(map(printable, message.split("\n"))))
 
 
 def _parser() -> argparse.ArgumentParser:
@@ -338,15 +486,15 @@ def _parser() -> argparse.ArgumentParser:
         command.add_argument("--json", action="store_true", help="write lines of JSON")
         text = "read pages as XML, whatever their names"
         command.add_argument("--xml", action="store_true", help=text)
-        command.set_defaults(run=run, job=job)
+        command.set_defaults(run=run, job=job, watch=False)
         return command
 
     text = "Show which rules match each element."
     _add_reading(add("match", _read_pages, _jobs.Match, text))
     text = "Show which declaration of a property wins on each element."
-    command = add("style", _read_pages, _jobs.Style, text)
-    command.add_argument("name", metavar="NAME", help="the property")
+    command = add("style", _style, _jobs.Style, text)
     _add_reading(command)
+    command.usage = "simplecss style [OPTION..] [SHEET..] PAGE.. NAME"
     text = "Show the elements that a list of selectors matches."
     _add_select(add("select", _select, _jobs.Select, text))
     text = "Write style sheets into the style attributes of pages."
@@ -355,16 +503,16 @@ def _parser() -> argparse.ArgumentParser:
     command = add("lint", _lint_files, _jobs.Lint, text)
     command.formatter_class = argparse.RawDescriptionHelpFormatter
     command.epilog = (
-        f"kinds:\n{_lint.kinds()}\nThe comment `/* simplecss-ignore KIND.. */` leaves these kinds"
-        " out on its line."
+        "`lint --explain` lists the kinds. The comment `/* simplecss-ignore KIND.. */` leaves these"
+        " kinds out on its line."
     )
     _add_lint(command)
     text = "Write style sheets without comments, blanks and rules that say nothing."
-    command = add("minify", _minify, _jobs.Minify, text)
-    text = "the file of the sheet, or a folder for those of several"
-    command.add_argument("-o", dest="output", metavar="PATH", help=text)
-    text = "style sheets, folders or patterns of them"
-    command.add_argument("sheets", nargs="+", metavar="SHEET", help=text)
+    _add_writing(add("minify", _minify, _jobs.Minify, text))
+    text = "Write style sheets with a line for each rule and each declaration."
+    _add_writing(add("prettify", _minify, _jobs.Prettify, text))
+    text = "Write what a policy allows of style sheets from strangers, under a scope."
+    _add_clean(add("clean", _clean, _jobs.Clean, text))
     text = "Show the selectors of style sheets that match nothing on any of the pages."
     command = add("unused", _unused, _jobs.Job, text)
     text = "write the sheets without the rules that match nothing"
@@ -372,7 +520,45 @@ def _parser() -> argparse.ArgumentParser:
     _add_folder(command)
     text = "style sheets (default: the linked ones), and pages, folders or patterns of them"
     command.add_argument("files", nargs="+", metavar="FILE", help=text)
+    text = "Report mistakes in an editor, by the Language Server Protocol over standard input and output."
+    command = commands.add_parser("lsp", help=text, description=text)
+    command.set_defaults(run=_serve, watch=False)
+    text = "the only way, which editors name"
+    command.add_argument("--stdio", action="store_true", help=text)
+    text = "Write the completion of a shell."
+    command = commands.add_parser("completions", help=text, description=text)
+    command.set_defaults(run=_complete, watch=False)
+    command.add_argument("shell", choices=list(SHELLS), help="the shell")
     return parser
+
+
+def _add_watch(command: Any, operands: Callable[[argparse.Namespace], List[str]]) -> None:
+    text = "run again when a file changes, until Ctrl-C"
+    command.add_argument("--watch", action="store_true", help=text)
+    command.set_defaults(operands=operands)
+
+
+def _add_writing(command: Any) -> None:
+    text = "the file of the sheet, or a folder for those of several"
+    command.add_argument("-o", dest="output", metavar="PATH", help=text)
+    command.set_defaults(folder=None)
+    _add_watch(command, lambda words: list(words.sheets))
+    text = "style sheets, folders or patterns of them"
+    command.add_argument("sheets", nargs="+", metavar="SHEET", help=text)
+
+
+def _add_clean(command: Any) -> None:
+    kind = command.add_mutually_exclusive_group(required=True)
+    text = "the selector that all selectors are put under, such as `.mail`"
+    kind.add_argument("--scope", metavar="SELECTOR", help=text)
+    kind.add_argument("--style", action="store_true", help="the texts are style attributes")
+    text = "what is allowed (default: mail)"
+    command.add_argument("--policy", choices=POLICIES, default="mail", help=text)
+    text = "write nothing; status 1 if a text is not clean"
+    command.add_argument("--check", action="store_true", help=text)
+    text = "report on standard error what is dropped"
+    command.add_argument("--report", action="store_true", help=text)
+    _add_writing(command)
 
 
 def _grammar(word: str) -> str:
@@ -461,6 +647,7 @@ def _add_inline(command: Any) -> None:
         ("report", "report on standard error what is not written"),
     ):
         command.add_argument(f"--{name}", action="store_true", help=text)
+    _add_watch(command, lambda words: list(words.files))
     text = "a page, and more pages, folders or patterns of them, and style sheets"
     command.add_argument("files", nargs="+", metavar="FILE", help=text)
 
@@ -476,12 +663,19 @@ def _add_lint(command: Any) -> None:
     )
     command.add_argument("--ignore", action="append", metavar="KIND", help="leave these kinds out")
     command.add_argument("--all", action="store_true", help="report what is unsupported, too")
-    text = "correct mistakes that have one right answer in the sheets"
+    text = "correct mistakes that have one right answer in the sheets; `-` is written to standard output"
     command.add_argument("--fix", action="store_true", help=text)
     _add_grammar(command)
     _add_folder(command)
+    _add_watch(command, lambda words: list(words.sheets))
+    text = "the name that standard input is read and reported by, such as `a.html`"
+    command.add_argument("--stdin-filename", metavar="NAME", help=text)
+    text = "read no settings of a project, and leave out no file of a folder"
+    command.add_argument("--no-project", action="store_true", help=text)
+    text = "explain the kinds that are named in place of files, or list all"
+    command.add_argument("--explain", action="store_true", help=text)
     text = "style sheets, pages, folders or patterns of them"
-    command.add_argument("sheets", nargs="+", metavar="FILE", help=text)
+    command.add_argument("sheets", nargs="*", metavar="FILE", help=text)
 
 
 def _say(message: str) -> None:
@@ -497,7 +691,7 @@ def _run(words: argparse.Namespace) -> Tuple[int, str]:
     try:
         if sys.stdout is None:
             return UNREADABLE, "standard output is closed"
-        status = words.run(words)
+        status = _run_watching(words) if words.watch else words.run(words)
         sys.stdout.flush()
         return status, ""
     except Failure as failure:
@@ -512,6 +706,8 @@ def _run(words: argparse.Namespace) -> Tuple[int, str]:
         return OUT_OF_MEMORY, "out of memory"
     except LibraryError as error:
         return UNREADABLE, str(error)
+    except InternalError as error:
+        return UNREADABLE, f"a mistake in simplecss itself: {error}"
     except OSError as error:
         return _unwritten(error)
 
@@ -554,7 +750,8 @@ def _run_aside(words: argparse.Namespace) -> Tuple[int, str]:
         _progress.clear()
         for each in multiprocessing.active_children():
             each.kill()
-        os._exit(INTERRUPTED)
+        abandon()
+        os._exit(_interrupt.INTERRUPTED)
     _progress.clear()
     if errors:
         raise errors[0]
@@ -564,8 +761,16 @@ def _run_aside(words: argparse.Namespace) -> Tuple[int, str]:
 def _parse(arguments: Optional[List[str]]) -> argparse.Namespace:
     """Returns the words. Exits after the help, the version or an error of words, and raises an
     `OSError` where one of these cannot be written."""
+    parser = _parser()
     try:
-        return _parser().parse_args(arguments)
+        words, rest = parser.parse_known_args(arguments)
+        # Operands after an option that is among them.
+        lists = [each for each in (getattr(words, it, None) for it in _LISTS) if each]
+        if rest and (not lists or any(it.startswith("-") and it != INPUT for it in rest)):
+            parser.error(f"unrecognized arguments: {' '.join(rest)}")
+        for each in lists[:1]:
+            each.extend(rest)
+        return words
     except SystemExit:
         if sys.stdout is not None:
             sys.stdout.flush()
@@ -579,6 +784,8 @@ def main(arguments: Optional[List[str]] = None) -> int:
     _progress = _Progress()
     try:
         words = _parse(arguments)
+    except KeyboardInterrupt:
+        return _interrupt.INTERRUPTED
     except OSError as error:
         status, message = _unwritten(error)
         if message:
@@ -592,6 +799,8 @@ def main(arguments: Optional[List[str]] = None) -> int:
         _say(message)
     return status
 
+
+_interrupt.raise_again()
 
 if __name__ == "__main__":
     sys.exit(main())

@@ -27,27 +27,40 @@ from typing import (
 )
 
 from . import _library as library
+from ._html import MATH, SVG, HtmlPage
+from ._kept import KeptPage
+from ._patterns import pattern
 from ._selectors import (
     MODERN,
     NUMBERS,
     PORT,
     Reading,
+    ReadText,
+    Selectors,
     SelectorError,
     grammar_of,
     listed,
     matched,
+    matched_of_port,
     selector_error,
 )
 from ._spaced import HTML_SPACE, MATH_SPACE, SVG_SPACE, Attributes, parted_in_html
 from ._words import BLANKS, lower, words_of
-from ._xml import XmlDocument
-from .html import HTML, RAW, SVG, Builder, Made, Node, Text, decode, with_line_feeds
+from ._xml import SheetLink, XmlDocument
 
 # The states of an element that the library numbers.
 STATES = {"link": 1, "visited": 2, "hover": 4, "active": 8, "focus": 16}
 # Two more that `:dir(ltr)` and `:dir(rtl)` test, and the number of the first state that a tree names.
 _DIRECTIONS = frozenset(("dir(ltr)", "dir(rtl)"))
 _FIRST_NAMED = 128
+# The states of elements of HTML that attributes decide, those of them that elements without one are in, too,
+# and a name of an element that is in no more.
+_DECIDED = (
+    *("checked", "disabled", "enabled", "required", "optional", "read-only", "read-write"),
+    *("placeholder-shown", "default", "indeterminate", "open", "defined", "dir(ltr)", "dir(rtl)"),
+)
+_OF_ALL = _DIRECTIONS | {"defined"}
+_OF_NO_HTML = "svg"
 # How many states a tree may name, since a number of the library has no bits for more.
 _MOST_NAMED = 8 * ctypes.sizeof(ctypes.c_size_t) - 8
 NO_STATES: FrozenSet[str] = frozenset()
@@ -57,18 +70,23 @@ _HAS_TEXT = 32
 # How many numbers of what wins on an element there is room for at first.
 _ROOM_FOR_ELEMENT = 64
 # How many lists of selectors have their answers kept.
-_MOST_ANSWERS = 32
-# For how many sets of prefixes the arrays of a tree are kept.
-_MOST_SPACED = 4
+_MOST_QUESTIONS = 32
+# For how many sets of prefixes the library keeps the page of a tree.
+_MOST_PAGES = 4
+# To ask about some elements takes as long as to test so many. A caller that may want the first match alone is
+# answered about as many at first.
+_OF_QUESTION = 64
+# What a text has if `:has()`, `of` or `&` may be in it.
+_LISTED = pattern(r"[hH][aA][sS]\(|[^-][oO][fF]|[&\\]")
 _LINK_NAMES = ("a", "area")
 _TO_SPACES = str.maketrans(BLANKS, " " * len(BLANKS))
-# What begins a text in which no references are read.
-_CDATA = "<![CDATA["
 
 # Selectors, and the states of the elements that each matches.
-States = Mapping[str, Iterable[str]]
+States = Mapping[Selectors, Iterable[str]]
 # Prefixes of selectors and the namespaces of each. That of the empty prefix is the default one.
 Namespaces = Mapping[str, str]
+# The same in order.
+Prefixes = Tuple[Tuple[str, str], ...]
 # The namespaces of a document in HTML, in the order of their numbers from 1 on. They have these numbers in any
 # tree.
 _SPACES_OF_HTML = (HTML_SPACE, SVG_SPACE, MATH_SPACE)
@@ -94,27 +112,61 @@ class TreeError(ValueError):
 
 class _Texts:
     """The texts of a document that are not empty, in order: for each how many elements begin before
-    it, in which element it is, and the text, or where it begins and ends in the source.
+    it, in which element it is, and what it says.
     """
 
-    def __init__(self) -> None:
-        self.begun = array.array("l")
-        self.owners = array.array("l")
-        self.values: List[Any] = []
+    def __init__(
+        self, begun: Iterable[int] = (), owners: Iterable[int] = (), values: Sequence[str] = ()
+    ) -> None:
+        self.begun = array.array("l", begun)
+        self.owners = array.array("l", owners)
+        self._own: List[str] = []
+        self._values = values or self._own
 
-    def add(self, begun: int, owner: int, value: Any) -> None:
-        """Adds a text."""
+    def add(self, begun: int, owner: int, value: str) -> None:
+        """Adds a text to those that were added."""
         self.begun.append(begun)
         self.owners.append(owner)
-        self.values.append(value)
+        self._own.append(value)
 
-    def within(self, start: int, end: int) -> Iterator[Tuple[int, Any]]:
+    def __getitem__(self, at: int) -> str:
+        return self._values[at]
+
+    def within(self, start: int, end: int) -> Iterator[Tuple[int, str]]:
         """Yields the texts of the elements from one index up to another, each after its element."""
-        for at in range(bisect.bisect_left(self.begun, start + 1), len(self.values)):
+        for at in range(bisect.bisect_left(self.begun, start + 1), len(self.begun)):
             # Those of an element and of the elements in it are one after another.
             if self.begun[at] > end or not start <= self.owners[at] < end:
                 break
-            yield self.owners[at], self.values[at]
+            yield self.owners[at], self[at]
+
+
+class Question:
+    """A list of selectors that elements are asked about: its grammar, the prefixes that are declared, and the index
+    of the element that `:scope` matches, or -1 if it matches the root."""
+
+    __slots__ = ("text", "grammar", "prefixes", "scope", "is_of_all", "found", "tested")
+
+    def __init__(self, text: str, grammar: str, prefixes: Prefixes, scope: int = -1) -> None:
+        self.text = text
+        self.grammar = grammar
+        self.prefixes = prefixes
+        self.scope = scope
+        # Whether it may take as long to ask one element as to ask all: what `:has()`, `of` and `&` are about is tested
+        # on each.
+        self.is_of_all = grammar == PORT or _LISTED.search(text) is not None
+        # What matches of all elements, once they were asked, and how many were until then.
+        self.found: Optional[List[int]] = None
+        self.tested = 0
+
+
+def _prefixes_of(namespaces: Namespaces) -> Prefixes:
+    """Returns prefixes with their namespaces in order."""
+    if not isinstance(namespaces, Mapping):
+        raise TypeError("namespaces are a mapping of prefixes to namespaces")
+    for word in itertools.chain.from_iterable(namespaces.items()):
+        library.encode(word)
+    return tuple(sorted(namespaces.items()))
 
 
 def states_of(names: Iterable[str]) -> FrozenSet[str]:
@@ -146,48 +198,117 @@ class _Computed:
 
     def __init__(self) -> None:
         self.arrays: Dict[str, library.TreeArrays] = {}
-        self.answers: Dict[Tuple[str, str], List[int]] = {}
-        self.spaced: Dict[Tuple[Tuple[str, str], ...], library.TreeArrays] = {}
-        self.sets: Dict[Tuple[str, str], FrozenSet[int]] = {}
+        self.pages: Dict[Prefixes, KeptPage] = {}
+        self.questions: Dict[Tuple[str, str, Prefixes], Question] = {}
         # The numbers of namespaces, of which nothing stands for none.
         self.numbers: Optional[Dict[str, int]] = None
+        self.states: Optional[Dict[int, FrozenSet[str]]] = None
+        self.plain: Optional[List[Dict[str, str]]] = None
         self.lines: Optional[List[int]] = None
         self.ends: Optional[List[int]] = None
         self.children: Optional[List[List[int]]] = None
 
 
 class Elements:
-    """The elements of a tree, in document order: an item of each list is what one of them has."""
+    """The elements of a tree, in document order: an item of each list is what one of them has. Those of a page
+    in HTML are made when they are asked for."""
 
-    def __init__(self) -> None:
-        self.names: List[str] = []
-        self.attributes: List[Dict[str, str]] = []
-        # The indices of the parents, and -1 of an element without one.
-        self.parents: List[int] = []
-        self.depths: List[int] = []
-        self.states: Dict[int, FrozenSet[str]] = {}
-        # Of each element with attributes in namespaces, these and the others.
-        self.spaced: Dict[int, Attributes] = {}
+    def __init__(self, page: Optional[HtmlPage] = None) -> None:
+        """Takes a page in HTML, or no elements."""
+        self._page = page
         # The namespace of each element, but in a document that was read as HTML here. That of an element of
         # HTML may not be known.
         self.spaces: List[str] = []
-        # The elements of SVG, and of MathML in HTML.
-        self.drawn: Set[int] = set()
-        self.formulas: Set[int] = set()
-        # Where each element begins: its row and column; or in `source`, where its start tag begins
-        # and ends, and where the element ends.
+        # The row and column where each element begins, but in a document that was read as HTML here.
         self.places: List[Tuple[Optional[int], Optional[int]]] = []
-        self.spans: Optional[List[Tuple[int, int, int]]] = None
         self.source: Optional[str] = None
-        self.texts = _Texts()
         # The elements of the tree that these were made from.
         self.nodes: Optional[List[Any]] = None
+        # What instructions of an XML document name.
+        self.links: List[SheetLink] = []
         # How selectors are read for the elements.
         self.reading = Reading.AS_WRITTEN
         self._computed = _Computed()
+        if page is not None:
+            self.source = page.text
+            self.reading = Reading.QUIRKS if page.is_quirky else Reading.HTML
+
+    @functools.cached_property
+    def names(self) -> List[str]:
+        """The names."""
+        return [] if self._page is None else self._page.names()
+
+    @functools.cached_property
+    def attributes(self) -> List[Dict[str, str]]:
+        """The attributes."""
+        return [] if self._page is None else self._page.attributes()
+
+    @functools.cached_property
+    def parents(self) -> List[int]:
+        """The indices of the parents, and -1 of an element without one."""
+        return [] if self._page is None else self._page.parents()
+
+    @functools.cached_property
+    def depths(self) -> List[int]:
+        """How many ancestors each has."""
+        return [] if self._page is None else self._page.depths()
+
+    @functools.cached_property
+    def states(self) -> Dict[int, FrozenSet[str]]:
+        """The states of those that are in some."""
+        if self._page is None:
+            return {}
+        named = enumerate(self.names)
+        links = (index for index, name in named if name in _LINK_NAMES and self._is_link(index))
+        return dict.fromkeys(links, LINK)
+
+    @functools.cached_property
+    def drawn(self) -> Set[int]:
+        """The elements of SVG."""
+        return self._in_space(SVG)
+
+    @functools.cached_property
+    def formulas(self) -> Set[int]:
+        """The elements of MathML in HTML."""
+        return self._in_space(MATH)
+
+    @functools.cached_property
+    def spaced(self) -> Dict[int, Attributes]:
+        """Of each element with attributes in namespaces, these and the others."""
+        found: Dict[int, Attributes] = {}
+        for index in sorted(self.drawn | self.formulas) if self._page is not None else ():
+            attributes = parted_in_html(self.attributes[index])
+            if attributes is not None:
+                found[index] = attributes
+        return found
+
+    @functools.cached_property
+    def spans(self) -> Optional[List[Tuple[int, int, int]]]:
+        """Where each element's start tag begins and ends in `source`, and where the element ends."""
+        if self._page is None:
+            return None
+        return [(*tag, end) for tag, (_, end) in zip(self._page.tags(), self._page.ends())]
+
+    @functools.cached_property
+    def texts(self) -> _Texts:
+        """The texts."""
+        return _Texts() if self._page is None else _Texts(*self._page.texts())
+
+    def _in_space(self, space: int) -> Set[int]:
+        """Returns the indices of the elements of a page that are in a namespace."""
+        spaces = b"" if self._page is None else self._page.spaces()
+        return {index for index, each in enumerate(spaces) if each == space}
+
+    def _is_link(self, index: int) -> bool:
+        """Whether an element of a page whose name is that of a link is one."""
+        attributes = self.attributes[index]
+        if self.names[index] == "a":
+            return "href" in attributes or index in self.drawn and "xlink:href" in attributes
+        is_html = index not in self.drawn and index not in self.formulas
+        return is_html and "href" in attributes
 
     def __len__(self) -> int:
-        return len(self.names)
+        return len(self.parents) if self._page is None else len(self._page)
 
     def __getstate__(self) -> Dict[str, Any]:
         state = {**self.__dict__, "nodes": None}
@@ -208,82 +329,25 @@ class Elements:
         self.depths.append(0 if parent < 0 else self.depths[parent] + 1)
         return len(self.names) - 1
 
-    def take_nodes(self, builder: Builder, *, is_part: bool = False) -> List[Node]:
-        """Takes the elements of a document in HTML, and returns them in order."""
-        self.reading = Reading.QUIRKS if builder.is_quirky else Reading.HTML
-        self.source = builder.text
-        if builder.made is not None:
-            taken = self._take_made(builder.made)
-        else:
-            taken = self._walk(builder.root.children if is_part else [builder.root])
-        self.names = [node.name for node in taken]
-        self.attributes = [node.attributes for node in taken]
-        self.spans = [(node.start, node.inner, node.outer_end) for node in taken]
-        for index, node in enumerate(taken):
-            if node.name in _LINK_NAMES and _is_link(node):
-                self.states[index] = LINK
-            if node.space != HTML:
-                (self.drawn if node.space == SVG else self.formulas).add(index)
-                self.take_spaced(index, parted_in_html(node.attributes))
-        return taken
-
     def take_spaced(self, index: int, attributes: Optional[Attributes]) -> None:
         """Takes the attributes of an element, if some are in namespaces."""
         if attributes is not None:
             self.spaced[index] = attributes
 
-    def _take_made(self, made: Made) -> List[Node]:
-        """Takes the texts, and where each element is, in the order in which they were made."""
-        texts, parents, depths = self.texts, self.parents, self.depths
-        texts.begun = array.array("l", made.begun)
-        texts.owners = array.array("l", made.owners)
-        texts.values = made.texts
-        for node in made.nodes:
-            parent = -1 if node.parent is None else node.parent.index
-            # Without its parent it goes as soon as it is no longer used.
-            node.parent = None
-            parents.append(parent)
-            depths.append(depths[parent] + 1 if parent >= 0 else 0)
-        return made.nodes
-
-    def _walk(self, top: Sequence[Union[Node, Text]]) -> List[Node]:
-        """Takes the texts, and where each element is. Returns the elements in order."""
-        taken: List[Node] = []
-        parents, depths, texts = self.parents, self.depths, self.texts
-        begun, owners, values = (
-            texts.begun.append,
-            texts.owners.append,
-            texts.values.append,
-        )
-        # The children that are to come of each open element, and its index.
-        waiting = [iter(top)]
-        open_ones = [-1]
-        while waiting:
-            parent, depth = open_ones[-1], len(waiting) - 1
-            for child in waiting[-1]:
-                if isinstance(child, tuple):
-                    if child[0] < child[1]:
-                        begun(len(taken))
-                        owners(parent)
-                        values(child)
-                    continue
-                # Without its parent it goes as soon as it is no longer used.
-                child.parent = None
-                parents.append(parent)
-                depths.append(depth)
-                taken.append(child)
-                if child.children and (child.name != "template" or child.space != HTML):
-                    waiting.append(iter(child.children))
-                    open_ones.append(len(taken) - 1)
-                    break
-            else:
-                waiting.pop()
-                open_ones.pop()
-        return taken
+    @property
+    def plain(self) -> List[Dict[str, str]]:
+        """Of each element the attributes that are in no namespace."""
+        plain = self._computed.plain
+        if plain is None:
+            plain = self._computed.plain = self.attributes.copy()
+            for index, attributes in self.spaced.items():
+                plain[index] = attributes.plain
+        return plain
 
     def take_tags(self, document: XmlDocument, text: str) -> None:
         """Takes the elements of a document in XML."""
         self.source = text
+        self.links = document.links
         self.spans = [(tag.start, tag.inner, tag.end) for tag in document.tags]
         for index, tag in enumerate(document.tags):
             self.add(tag.name, tag.attributes, tag.parent)
@@ -308,7 +372,7 @@ class Elements:
             if isinstance(names, bytes):
                 raise TypeError("names of states are texts (str), not bytes")
             named = states_of((names,) if isinstance(names, str) else names)
-            for index in self.found(selectors, MODERN):
+            for index in self.found(self.question(selectors)):
                 more[index] = more.get(index, self.states.get(index, NO_STATES)) | named
         for index, named in more.items():
             # A link is visited or not.
@@ -339,26 +403,12 @@ class Elements:
     def text_of(self, index: int) -> str:
         """Returns the text of an element and of all elements in it."""
         found = self.texts.within(index, self.end_of(index))
-        return "".join(itertools.starmap(self._text, found))
+        return "".join(value for _, value in found)
 
     def own_text_of(self, index: int) -> str:
         """Returns the text of an element without those of the elements in it."""
         found = self.texts.within(index, self.end_of(index))
-        return "".join(self._text(owner, value) for owner, value in found if owner == index)
-
-    def text_at(self, at: int) -> str:
-        """Returns a text by its number."""
-        return self._text(self.texts.owners[at], self.texts.values[at])
-
-    def _text(self, owner: int, value: Any) -> str:
-        """Returns a text of an element, which in HTML is where it begins and ends."""
-        if isinstance(value, str):
-            return value
-        source, (start, end) = self.source or "", value
-        is_raw = self.names[owner] in RAW and owner not in self.drawn and owner not in self.formulas
-        if is_raw or source.endswith(_CDATA, 0, start):
-            return with_line_feeds(source[start:end])
-        return decode(source[start:end])
+        return "".join(value for owner, value in found if owner == index)
 
     def end_at(self, index: int) -> int:
         """Returns where an element ends in the source, or -1 if that is not known."""
@@ -387,88 +437,99 @@ class Elements:
 
     # ---- selectors
 
-    def found_set(self, selectors: str, grammar: str = MODERN) -> FrozenSet[int]:
+    def question(
+        self,
+        selectors: Selectors,
+        grammar: str = MODERN,
+        namespaces: Optional[Namespaces] = None,
+        scope: int = -1,
+    ) -> Question:
+        """Returns the question for selectors. The grammar of a `Selector` is its own, and `:scope` matches the element
+        at an index, or the root."""
+        if isinstance(selectors, ReadText):
+            text, own = selectors.source, selectors.grammar
+        else:
+            text, own = selectors, grammar
+        library.expect_text(text)
+        own = grammar_of(own)
+        if own == PORT and namespaces is not None:
+            raise ValueError("the grammar of the Rust crate has no namespaces")
+        key = text, own, () if namespaces is None else _prefixes_of(namespaces)
+        if scope >= 0 and own == MODERN and _may_name_scope(text):
+            return Question(*key, scope)
+        return self._kept_question(key)
+
+    def _kept_question(self, key: Tuple[str, str, Prefixes]) -> Question:
+        """Returns the question that was asked before, or a new one."""
+        questions = self._computed.questions
+        question = questions.get(key)
+        if question is None:
+            if len(questions) >= _MOST_QUESTIONS:
+                questions.clear()
+            question = questions[key] = Question(*key)
+        return question
+
+    def found(self, question: Question, start: int = 0, end: Optional[int] = None) -> Sequence[int]:
+        """Returns the indices of the elements from one up to another that match, in order. When as many were asked
+        as there are, all are: then an answer takes no longer than to look."""
+        count = len(self)
+        end = count if end is None else end
+        if question.found is None:
+            question.tested += count if question.is_of_all else _OF_QUESTION + end - start
+            if question.tested < count:
+                return self._ask(question, start, end)
+            question.found = self._ask(question, 0, count)
+        found = question.found
+        return found[bisect.bisect_left(found, start) : bisect.bisect_left(found, end)]
+
+    def found_when_wanted(self, question: Question, start: int, end: int) -> Iterator[int]:
+        """Yields what `found` returns, which is asked for in parts. Selectors that are refused raise their error at
+        once."""
+        parts = _growing(start, end)
+        first = self.found(question, *next(parts))
+        others = (self.found(question, *part) for part in parts)
+        return itertools.chain(first, itertools.chain.from_iterable(others))
+
+    def found_set(self, selectors: Selectors) -> FrozenSet[int]:
         """Returns the indices of the elements that one of the selectors matches."""
-        grammar = grammar_of(grammar)
-        sets = self._computed.sets
-        found = sets.get((grammar, selectors))
-        if found is None:
-            if len(sets) >= _MOST_ANSWERS:
-                sets.clear()
-            found = sets[grammar, selectors] = frozenset(self.found(selectors, grammar))
-        return found
+        return frozenset(self.found(self.question(selectors)))
 
-    def found(self, selectors: str, grammar: str) -> List[int]:
-        """Returns the indices of the elements that one of the selectors matches, in order."""
-        library.expect_text(selectors)
-        grammar = grammar_of(grammar)
-        answers = self._computed.answers
-        found = answers.get((grammar, selectors))
-        if found is None:
-            if len(answers) >= _MOST_ANSWERS:
-                answers.clear()
-            found = answers[grammar, selectors] = self._find(selectors, grammar)
-        return found
+    def _ask(self, question: Question, start: int, end: int) -> List[int]:
+        """Returns the indices of the elements from one up to another that match, and by the grammar of the Rust
+        crate of all."""
+        if question.grammar == PORT:
+            return self._ask_port(question)
+        page, data = self._kept_page(question.prefixes), library.encode(question.text)
+        numbers = page.select(data, question.scope + 1, start, end)
+        if numbers is None:
+            raise self._error(question)
+        return [number - 1 for number in numbers]
 
-    def found_in(
-        self, selectors: str, namespaces: Namespaces, scope: Optional[int] = None
-    ) -> List[int]:
-        """Returns what `found` returns by the modern grammar, where these prefixes are declared, and
-        `:scope` matches the element at an index if there is one."""
-        library.expect_text(selectors)
-        arrays = self._spaced(namespaces)
-        if scope is not None and _may_name_scope(selectors):
-            arrays = arrays.with_scope(scope)
-        return self._find_in(arrays, selectors, MODERN)
-
-    def _spaced(self, namespaces: Namespaces) -> library.TreeArrays:
-        """Returns the arrays of the tree for modern selectors, where these prefixes are declared."""
-        if not isinstance(namespaces, Mapping):
-            raise TypeError("namespaces are a mapping of prefixes to namespaces")
-        for word in itertools.chain.from_iterable(namespaces.items()):
-            library.encode(word)
-        key = tuple(sorted(namespaces.items()))
-        spaced = self._computed.spaced
-        if key not in spaced:
-            if len(spaced) >= _MOST_SPACED:
-                spaced.clear()
-            spaced[key] = self._arrays_for(MODERN, key)
-        return spaced[key]
-
-    def found_from(self, index: int, selectors: str, grammar: str) -> List[int]:
-        """Returns what `found` returns where `:scope` matches the element at an index."""
-        scoped = self._scoped(index, selectors, grammar)
-        if scoped is None:
-            return self.found(selectors, grammar)
-        return self._find_in(scoped, selectors, MODERN)
-
-    def found_set_from(self, index: int, selectors: str, grammar: str) -> FrozenSet[int]:
-        """Returns what `found_set` returns where `:scope` matches the element at an index."""
-        scoped = self._scoped(index, selectors, grammar)
-        if scoped is None:
-            return self.found_set(selectors, grammar)
-        return frozenset(self._find_in(scoped, selectors, MODERN))
-
-    def _scoped(self, index: int, selectors: str, grammar: str) -> Optional[library.TreeArrays]:
-        """Returns the arrays of the tree where `:scope` matches the element at an index, or `None` if
-        no selector asks for it."""
-        library.expect_text(selectors)
-        if grammar_of(grammar) == PORT or not _may_name_scope(selectors):
-            return None
-        return self._arrays(MODERN).with_scope(index)
-
-    def _find(self, selectors: str, grammar: str) -> List[int]:
-        return self._find_in(self._arrays(grammar), selectors, grammar)
-
-    def _find_in(self, arrays: library.TreeArrays, selectors: str, grammar: str) -> List[int]:
-        words = [library.encode(selectors), self._number_of(grammar), arrays]
-        name = "simplecss_select"
-        # Each element is written once at most.
-        most = library.NO_LIMIT
-        answer = library.call(name, *words, room=1024 + 8 * len(self), with_fault=True, most=most)
+    def _ask_port(self, question: Question) -> List[int]:
+        """Returns the indices of the elements that selectors of the Rust crate match."""
+        words = (library.encode(question.text), NUMBERS[PORT], self._arrays(PORT))
+        room, most = 1024 + 8 * len(self), library.NO_LIMIT
+        answer = library.call("simplecss_select", *words, room=room, with_fault=True, most=most)
         if answer.status == library.REFUSED:
-            raise selector_error(selectors, grammar, arrays)
-        return [int(number) - 1 for number in library.output_of(name, answer).split()]
+            raise self._error(question)
+        output = library.output_of("simplecss_select", answer)
+        return [int(number) - 1 for number in output.split()]
+
+    def _error(self, question: Question) -> SelectorError:
+        """Returns the error of selectors that were refused, which are read with the names that the tree declares."""
+        names = library.TreeArrays((), (), self._named_states(), self._numbered(question.prefixes))
+        return selector_error(question.text, question.grammar, names)
+
+    def _kept_page(self, prefixes: Prefixes) -> KeptPage:
+        """Returns the page of the tree that the library keeps, where these prefixes are declared."""
+        pages = self._computed.pages
+        page = pages.get(prefixes)
+        if page is None or page.is_left:
+            if len(pages) >= _MOST_PAGES:
+                pages.clear()
+            arrays = self._arrays_for(MODERN, prefixes) if prefixes else self._arrays(MODERN)
+            page = pages[prefixes] = KeptPage(arrays, self.reading)
+        return page
 
     def classes_and_ids(self) -> Set[str]:
         """Returns the words of all `class` and the values of all `id`, in lower case."""
@@ -483,6 +544,13 @@ class Elements:
         """Returns for each element the numbers of the selectors that match it, which begin at 1,
         with spaces between them. More numbers than `limit` raise `LimitError`."""
         return matched(self._arrays(grammar), selectors, self._number_of(grammar), limit)
+
+    def matched_of_port(
+        self, texts: Sequence[bytes], most: int, count: int, limit: int
+    ) -> List[bytes]:
+        """Returns the same of the rules of a style sheet by the grammar of the Rust crate, of which there
+        are so many, with `most` declarations at most."""
+        return matched_of_port(self._arrays(PORT), texts, most, count, limit)
 
     def numbers(
         self,
@@ -522,23 +590,17 @@ class Elements:
             arrays[grammar] = self._arrays_for(grammar, ())
         return arrays[grammar]
 
-    def _arrays_for(
-        self, grammar: str, namespaces: Sequence[Tuple[str, str]]
-    ) -> library.TreeArrays:
-        """Returns the arrays of the tree, where prefixes of these namespaces are declared."""
+    def _arrays_for(self, grammar: str, prefixes: Prefixes) -> library.TreeArrays:
+        """Returns the arrays of the tree, where these prefixes are declared."""
         try:
-            return self._make_arrays(grammar, namespaces)
+            return self._make_arrays(grammar, prefixes)
         except UnicodeEncodeError as error:
             raise TreeError(f"a text is not Unicode: {error.reason}", None, None) from None
 
-    def _make_arrays(
-        self, grammar: str, namespaces: Sequence[Tuple[str, str]]
-    ) -> library.TreeArrays:
+    def _make_arrays(self, grammar: str, prefixes: Prefixes) -> library.TreeArrays:
         # By the grammar of the Rust crate, no attribute is in a namespace.
         spaced = {} if grammar == PORT else self.spaced
-        own = self.attributes.copy()
-        for index, attributes in spaced.items():
-            own[index] = attributes.plain
+        own = self.attributes if grammar == PORT else self.plain
         pairs = self._compared_attributes(own, grammar == PORT)
         compared = [pairs[id(each)] for each in own]
         counts = [len(each) // 2 for each in compared]
@@ -555,9 +617,13 @@ class Elements:
             for space, name, value in attributes.spaced:
                 places += (index, numbers[space])
                 strings += (self.reading.compared_name(name), value)
-        # One that no element is in has a number of none.
-        prefixes = [(name, numbers.get(space, len(numbers) + 1)) for name, space in namespaces]
-        return library.TreeArrays(shapes, strings, self._named_states(), prefixes, places)
+        declared = self._numbered(prefixes)
+        return library.TreeArrays(shapes, strings, self._named_states(), declared, places)
+
+    def _numbered(self, prefixes: Prefixes) -> List[Tuple[str, int]]:
+        """Returns prefixes with the numbers of their namespaces. One that no element is in has a number of none."""
+        numbers = self._space_numbers()
+        return [(name, numbers.get(space, len(numbers) + 1)) for name, space in prefixes]
 
     def namespaces(self) -> List[str]:
         """Returns the namespaces of elements and attributes that the library may know in sheets, in the
@@ -614,9 +680,44 @@ class Elements:
             found[key] = list(itertools.chain.from_iterable(attributes.items()))
         return found
 
+    def _all_states(self) -> Dict[int, FrozenSet[str]]:
+        """Returns the states of elements, with those that attributes decide of elements of HTML in XML."""
+        found = self._computed.states
+        if found is None:
+            found = self._computed.states = self.states.copy()
+            is_xml = self.reading == Reading.AS_WRITTEN and HTML_SPACE in self.spaces
+            for index, states in enumerate(self._decided_states() if is_xml else ()):
+                found[index] = found.get(index, NO_STATES) | states
+        return found
+
+    def _decided_states(self) -> Iterator[FrozenSet[str]]:
+        """Yields the states of each element that attributes decide, where those in the namespace of HTML
+        have its names. Any other element is in a state that all elements of HTML share, alone.
+        """
+        is_html = [space == HTML_SPACE for space in self.spaces]
+        own = [each if is_own else {} for each, is_own in zip(self.attributes, is_html)]
+        values = [
+            {key: Reading.HTML.compared_value(key, value) for key, value in each.items()}
+            for each in own
+        ]
+        with_text = frozenset(self.texts.owners)
+        shapes = array.array(library.SIZE)
+        strings: List[str] = []
+        for index, attributes in enumerate(values):
+            has_text = _HAS_TEXT * (index in with_text)
+            shapes.extend((self.depths[index], len(attributes), has_text, 1))
+            strings.append(self.names[index] if is_html[index] else _OF_NO_HTML)
+            strings += itertools.chain.from_iterable(attributes.items())
+        selectors = [f":{name}" for name in _DECIDED]
+        tree = library.TreeArrays(shapes, strings)
+        lines = matched(tree, selectors, Reading.HTML, len(self) * len(selectors))
+        for line, is_own in zip(lines, is_html):
+            found = frozenset(_DECIDED[int(number) - 1] for number in line.split())
+            yield found if is_own else found & _OF_ALL
+
     def _named_states(self) -> List[str]:
         """Returns the names of states that elements are in and the library does not number."""
-        named = sorted(NO_STATES.union(*self.states.values()) - STATES.keys())
+        named = sorted(NO_STATES.union(*self._all_states().values()) - STATES.keys())
         if len(named) > _MOST_NAMED:
             raise ValueError(f"more than {_MOST_NAMED} states: {named[_MOST_NAMED]!r}")
         return named
@@ -630,7 +731,7 @@ class Elements:
             # That of a text without an element is -1.
             if owner >= 0:
                 numbers[owner] = _HAS_TEXT
-        for index, states in self.states.items():
+        for index, states in self._all_states().items():
             numbers[index] += sum(map(of_states.__getitem__, states))
         return numbers
 
@@ -640,7 +741,10 @@ def _may_name_scope(selectors: str) -> bool:
     return "\\" in selectors or "&" in selectors or "scope" in lower(selectors)
 
 
-def _is_link(node: Node) -> bool:
-    if node.name == "a":
-        return "href" in node.attributes or node.space == SVG and "xlink:href" in node.attributes
-    return node.name == "area" and node.space == HTML and "href" in node.attributes
+def _growing(start: int, end: int) -> Iterator[Tuple[int, int]]:
+    """Yields parts from an index up to another, each much greater than the one before, and at least one."""
+    size = _OF_QUESTION
+    while end - start > size:
+        yield start, start + size
+        start, size = start + size, 4 * size
+    yield start, end

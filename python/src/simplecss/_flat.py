@@ -30,7 +30,7 @@ from ._reading import (
     Statement,
     read_sheet,
 )
-from ._tokens import COMBINATORS, GAPS, Token, is_escaping, tokens
+from ._tokens import COMBINATORS, GAPS, Token, is_escaping, parts_of
 from ._traits import traits_of
 
 # How long the selectors of a rule may be, and how many times as long as a style rule those of all
@@ -45,7 +45,6 @@ _NESTING = "&"
 # What may follow the selector that `&` stands for and is no part of its last name.
 _APART = frozenset((".", ":", "["))
 _IDS = frozenset(("hash", "id"))
-_OPENING, _CLOSING = frozenset("([{"), frozenset(")]}")
 
 
 class _Unclear(Exception):
@@ -167,7 +166,7 @@ class _Flat:
 
     def _selectors_in(self, head: str, around: Sequence[ReadSelector]) -> Sequence[ReadSelector]:
         """Returns the selectors of a rule in style rules with these selectors, without `&`."""
-        parts = (_without_nesting(each, around) for each in _parts_of(head))
+        parts = (_without_nesting(each, around) for each in parts_of(head))
         texts = list(itertools.chain.from_iterable(parts))
         length = sum(map(len, texts))
         self._room.take(length)
@@ -178,23 +177,6 @@ class _Flat:
         if len(selectors) != len(texts):
             raise _Unclear
         return selectors
-
-
-def _parts_of(head: str) -> List[List[Token]]:
-    """Returns the tokens of each selector of a list, without the blanks around it."""
-    parts: List[List[Token]] = [[]]
-    depth = 0
-    for token in tokens(head):
-        is_opening = token.kind == "function" or token.text in _OPENING
-        depth += is_opening - (token.text in _CLOSING)
-        if token.text == "," and depth == 0:
-            parts.append([])
-        elif parts[-1] or token.kind not in GAPS:
-            parts[-1].append(token)
-    for part in parts:
-        while part and part[-1].kind in GAPS:
-            part.pop()
-    return parts
 
 
 def _without_nesting(part: Sequence[Token], around: Sequence[ReadSelector]) -> List[str]:

@@ -10,7 +10,14 @@ from typing import Dict, Iterable, Iterator, List, NamedTuple, Optional, Set, Tu
 from ._flat import flattened
 from ._linked import Import, Shelf, imported, imports_in, in_force
 from ._nested import has_rules
-from ._order import LAYER, Layers, count_layers, own_layers
+from ._order import (
+    LAYER,
+    Layers,
+    count_layers,
+    is_ended,
+    own_layers,
+    without_wrong_layers,
+)
 from ._reading import (
     Condition,
     Fault,
@@ -131,7 +138,8 @@ def _is_order(statement: Statement) -> bool:
     if not isinstance(statement, ReadAtRule) or statement.rule.name != LAYER:
         return False
     is_whole = statement.is_closed or statement.rule.block is None
-    return is_whole and not is_escaping(statement.rule.prelude)
+    prelude = statement.rule.prelude
+    return is_whole and not is_escaping(prelude) and is_ended(prelude)
 
 
 def _may_be_followed(source: Source, statement: Statement) -> bool:
@@ -190,6 +198,7 @@ class SheetReader:
         self.texts.append(css)
         above = (*above, self.shelf.name_of(url or ""))
         moved = self._based(css if url is None else rebased(css, url, self.shelf.room))
+        moved = without_wrong_layers(moved)
         source, statements = read_sheet(moved)
         source.around = around
         rules = imports_in(moved)

@@ -21,19 +21,21 @@ from typing import (
     Sequence,
     Set,
     Tuple,
-    TYPE_CHECKING,
     TypeVar,
     Union,
 )
 
 from . import _library as library
 from ._declaration import Declaration
+from ._given import expect_css, expect_page
 from ._families import EVERYTHING, family_of, is_in
 from ._found_names import classes_in, pseudo_names
 from ._imports import LOSES, ReadSheet, SheetReader
 from ._linked import Load, Name, Shelf
 from ._marking import (
     BACK,
+    BUILT,
+    COMPARED,
     HIGHEST,
     LAYERED,
     Group,
@@ -47,9 +49,10 @@ from ._marking import (
     raised_by,
 )
 from ._order import Grouped, Reach, Strength, Winners
-from ._page import Content, Page, written
+from ._page import Content, EditedPage, written
 from ._reading import ReadDeclaration, ReadSelector, Source, read_block
-from ._selectors import SelectorTexts, states_in
+from ._selectors import Selectors, SelectorTexts, states_in
+from ._sheet import StyleSheet, text_of
 from ._presenting import attributes_of, is_presentable
 from ._split import (
     Leftover,
@@ -61,18 +64,14 @@ from ._split import (
     selectors_of,
     statements_of,
 )
+from ._spaced import XLINK_HREF
 from ._staying import Block, LeftBlock, Place, StayingRule, ended_in, marked, rules_of
 from ._urls import joined
 from ._values import color_in, has_ident, is_known, one_of, size_in
 from ._words import BLANKS, lower, words_of
 from ._xml import is_xml as is_xml_name
-from .html import decode_page
+from ._encoding import decode_page
 
-if TYPE_CHECKING:
-    from ._sheet import StyleSheet
-
-# Characters that a sheet has, and the name of a file usually has not.
-_OF_SHEETS = frozenset("{}()@;\"'<\n")
 _URL_ATTRIBUTES = frozenset(("href", "src", "background", "action", "poster"))
 # The attributes that say the same as a property: for which elements, and for which values.
 _CELLS = frozenset(("td", "th", "tr"))
@@ -94,6 +93,8 @@ _MOST_LAYERS = 1024
 _COLORED = "color background border outline fill stroke column text caret -webkit --".split()
 
 Document = TypeVar("Document", str, bytes)
+# A sheet, or several, one after another.
+Css = Union[str, StyleSheet, Sequence[Union[str, StyleSheet]]]
 _ALL_FAMILIES = frozenset((EVERYTHING,))
 
 
@@ -103,8 +104,8 @@ class _Options(NamedTuple):
     folder: Optional[Name] = None
     load: Optional[Load] = None
     base_url: Optional[str] = None
-    preserve: Optional[str] = None
-    ignore: Optional[str] = None
+    preserve: Optional[Selectors] = None
+    ignore: Optional[Selectors] = None
     keep_style: bool = False
     remove_classes: bool = False
     attributes: bool = False
@@ -131,10 +132,12 @@ class _Found:
     def split(self, knows_layers: bool) -> SplitSheet:
         """Returns its statements, of which the first has the number 0."""
         if knows_layers not in self._split:
-            self._split[knows_layers] = SplitSheet(
-                statements_of(self.read.taken(knows_layers), 0, knows_layers)
-            )
+            self._split[knows_layers] = self.split_from(0, knows_layers)
         return self._split[knows_layers]
+
+    def split_from(self, number: int, knows_layers: bool) -> SplitSheet:
+        """Returns its statements, of which the first has a number."""
+        return SplitSheet(statements_of(self.read.taken(knows_layers), number, knows_layers))
 
     def linked(self, knows_layers: bool) -> SplitSheet:
         """Returns the same with rules for links among those that are written."""
@@ -153,12 +156,14 @@ def _found_in(css: str) -> Dict[Optional[str], _Found]:
     return {}
 
 
-class _Prepared:
-    """A sheet and options for any number of pages."""
+class _GivenSheet:
+    """A sheet that is passed, for any number of pages."""
 
-    def __init__(self, css: "Union[str, StyleSheet]", options: _Options) -> None:
+    def __init__(self, css: Union[str, StyleSheet]) -> None:
         self.css = _text_of(css)
-        self.options = options
+        self.css.encode("utf-8")
+        if isinstance(css, str):
+            expect_css(css)
         # What is found of the sheet, by the base of its urls: of a `StyleSheet` once for all.
         self._found: Dict[Optional[str], _Found] = {}
         if not isinstance(css, str):
@@ -166,16 +171,8 @@ class _Prepared:
         elif len(css) <= _MOST_KEPT:
             self._found = _found_in(css)
 
-    def reader(self, page: Page, at: Optional[Name]) -> SheetReader:
-        """Returns what reads the sheets of a page, which is there."""
-        options = self.options
-        shelf = Shelf(at, options.folder, options.load, options.answer_limit)
-        shelf.take_base(page.elements)
-        return SheetReader(shelf, options.base_url)
-
-    def sheet(self, reader: SheetReader) -> _Found:
+    def read(self, reader: SheetReader, base: Optional[str]) -> _Found:
         """Returns what is read of the sheet: once, if it imports nothing."""
-        base = self.options.base_url
         if base in self._found:
             reader.texts.append(self.css)
             return self._found[base]
@@ -185,10 +182,25 @@ class _Prepared:
         return found
 
 
+class _Prepared:
+    """Sheets and options for any number of pages."""
+
+    def __init__(self, css: Css, options: _Options) -> None:
+        self.sheets = list(map(_GivenSheet, _each_of(css) or [""]))
+        self.options = options
+
+    def reader(self, page: EditedPage, at: Optional[Name]) -> SheetReader:
+        """Returns what reads the sheets of a page, which is there."""
+        options = self.options
+        shelf = Shelf(at, options.folder, options.load, options.answer_limit)
+        shelf.take_base(page.elements)
+        return SheetReader(shelf, options.base_url)
+
+
 class _PageInliner:
     """Writes sheets into the attributes of a page."""
 
-    def __init__(self, page: Page, prepared: _Prepared, at: Optional[Name]) -> None:
+    def __init__(self, page: EditedPage, prepared: _Prepared, at: Optional[Name]) -> None:
         self.page = page
         self.options = options = prepared.options
         self.reader = prepared.reader(page, at)
@@ -196,7 +208,7 @@ class _PageInliner:
         self.is_marking = options.important and not options.keep_style
         ignore = options.ignore
         self.ignored = page.elements.found_set(ignore) if ignore else frozenset()
-        self.sheet = prepared.sheet(self.reader)
+        self.given = [each.read(self.reader, options.base_url) for each in prepared.sheets]
         self.own_sheets = list(self._read_all())
         self.knows_layers = self._knows_layers()
         self._take_sheets(self.knows_layers)
@@ -236,7 +248,8 @@ class _PageInliner:
     def _knows_layers(self) -> bool:
         """Whether the order of all layers is known."""
         whole = [read for _, read, is_written, _ in self.own_sheets if not is_written]
-        reads = [self.sheet.read, *(read for _, read, _, _ in self.own_sheets)]
+        reads = [each.read for each in self.given]
+        reads += (read for _, read, _, _ in self.own_sheets)
         layered = [each for each in reads if each.knows_layers is not None]
         if not all(each.knows_layers and each not in whole for each in layered):
             return False
@@ -245,7 +258,7 @@ class _PageInliner:
         return sum(each.layer_count for each in layered) <= _MOST_LAYERS
 
     def _take_sheets(self, knows_layers: bool) -> None:
-        """Takes the sheet and those of the page, whose layers are written if their order is known."""
+        """Takes the sheets and those of the page, whose layers are written if their order is known."""
         self.sheets: List[SplitSheet] = []
         # Whether an `@import` stays.
         self.has_staying = False
@@ -253,7 +266,12 @@ class _PageInliner:
         self.animated: Set[str] = set()
         self.others: List[Tuple[Content, Source, int]] = []
         self.kept: List[StayingRule] = []
-        number = self._add(self.sheet.read.taken(knows_layers), self.sheet.split(knows_layers), 0)
+        number = 0
+        for each in self.given:
+            sheet = (
+                each.split(knows_layers) if number == 0 else each.split_from(number, knows_layers)
+            )
+            number = self._add(each.read.taken(knows_layers), sheet, number)
         for content, found, is_written, may_change in self.own_sheets:
             read = found.taken(knows_layers)
             # What it imports would import it in another place, if it were not there.
@@ -292,8 +310,11 @@ class _PageInliner:
         """Reads the sheet of an element. Returns `None` for a link to one that cannot be read."""
         if content.href is None:
             return self.reader.read(self.page.sheet_of(content), None)
-        css = self.reader.shelf.read(content.href) if content.href else None
-        return None if css is None else self.reader.read(css, content.href)
+        url, shelf = content.href, self.reader.shelf
+        if content.link is not None and not content.link.is_last:
+            url = shelf.before_base(url)
+        css = shelf.read(url) if url else None
+        return None if css is None else self.reader.read(css, url)
 
     def _prepare(self) -> None:
         """Collects the rules that are written into attributes, and those that stay."""
@@ -315,7 +336,7 @@ class _PageInliner:
         if not any(sheet.has_links for sheet in self.sheets):
             return
         is_alone = len(self.sheets) == 1
-        linked = self.sheet.linked(self.knows_layers) if is_alone else None
+        linked = self.given[0].linked(self.knows_layers) if is_alone else None
         self.sheets = [linked] if linked else _with_links(self.sheets)
 
     def write(self) -> None:
@@ -354,15 +375,17 @@ class _PageInliner:
         """Returns the own `style` of elements, where it matters what it says."""
         return {
             index: attributes["style"]
-            for index, attributes in enumerate(self.page.elements.attributes)
+            for index, attributes in enumerate(self.page.elements.plain)
             if "style" in attributes and (self.is_marking or has_ident(attributes["style"], BACK))
         }
 
     def _has_attributes(self) -> bool:
-        """Whether drawings get attributes in place of styles. Where all sheets stay, these would beat
-        what another sheet says."""
-        is_beaten = self.options.keep_style and bool(self.sheets[0].statements)
-        return self.options.as_attributes and not is_beaten
+        """Whether drawings get attributes in place of styles. Where all sheets stay, or one is not read,
+        these would beat what another sheet says."""
+        given = self.sheets[: len(self.given)]
+        is_beaten = self.options.keep_style and any(each.statements for each in given)
+        is_known = not is_beaten and not self.reader.shelf.unread
+        return self.options.as_attributes and is_known
 
     def _matched(self) -> Iterator[Tuple[int, int, bool]]:
         """Returns for each element the numbers of the set of rules that match it, and of the set of
@@ -407,7 +430,7 @@ class _PageInliner:
         """Finds what wins of each set of rules, which are of these."""
         groups = {rule: self._groups(rule) for rule in every}
         for rules in self.rule_sets:
-            self.compared.take(sum(len(groups[rule]) for rule in rules))
+            self.compared.take(COMPARED * sum(len(groups[rule]) for rule in rules))
         names = {
             rule: (
                 self.order.strengths[rule],
@@ -474,7 +497,8 @@ class _PageInliner:
             winners = self.winners[kind.rules]
             rivals = self._strongest(self.rival_sets[kind.rivals])
             rules = [rule for rule, _ in rivals]
-            self.compared.take(len(winners) + sum(1 + len(each.block.declared) for each in rules))
+            declared_count = sum(1 + len(each.block.declared) for each in rules)
+            self.compared.take(COMPARED * (len(winners) + declared_count))
             declared = [_Rival(*each, self._families(each[0])) for each in rivals]
             self.as_it_is[key] = _left_families(winners, declared)
         return self.as_it_is[key]
@@ -499,7 +523,7 @@ class _PageInliner:
             blocks: Dict[Block, List[int]] = {}
             for at in self.rival_sets[kind.rivals]:
                 blocks.setdefault(self.kept[at].block, []).append(at)
-            self.compared.take(len(blocks) + len(ranks))
+            self.compared.take(BUILT * (len(blocks) + len(ranks)))
             every = [self._rival(block, rules) for block, rules in blocks.items()]
             for number, rank in ranks.items():
                 every.append(Rival(self._left_block(number), Reach(rank, rank), False))
@@ -620,11 +644,23 @@ class _PageInliner:
         return self.families[key]
 
     def _rebase_attributes(self, base: str) -> None:
-        for index, attributes in enumerate(self.page.elements.attributes):
+        for index in range(len(self.page.elements)):
             is_ignored = index in self.ignored
-            for name in () if is_ignored else _URL_ATTRIBUTES & attributes.keys():
-                if attributes[name] != joined(base, attributes[name]):
-                    self.page.set_attribute(index, name, joined(base, attributes[name]))
+            for name, url in () if is_ignored else self._urls_of(index).items():
+                if url != joined(base, url):
+                    self.page.set_attribute(index, name, joined(base, url))
+
+    def _urls_of(self, index: int) -> Dict[str, str]:
+        """Returns the attributes of an element that are urls. In XML that of XLink is also its `href`,
+        which browsers take first."""
+        elements = self.page.elements
+        own = elements.plain[index]
+        found = {name: own[name] for name in _URL_ATTRIBUTES & own.keys()}
+        if self.page.is_xml and index in elements.spaced:
+            spaced = elements.spaced[index].spaced
+            links = [value for space, name, value in spaced if (space, name) == XLINK_HREF]
+            found = {**{"href": value for value in links}, **found}
+        return found
 
     def _remove_classes(self) -> None:
         """Removes the classes that no rule that stays names."""
@@ -638,7 +674,7 @@ class _PageInliner:
         named = None if self.options.keep_style else classes_in(kept)
         if named is None:
             return
-        for index, attributes in enumerate(self.page.elements.attributes):
+        for index, attributes in enumerate(self.page.elements.plain):
             if "class" in attributes and index not in self.ignored:
                 words = [each for each in words_of(attributes["class"]) if each in named]
                 self.page.set_attribute(index, "class", " ".join(words) or None)
@@ -681,7 +717,7 @@ class _PageInliner:
         named: Dict[str, List[Group]] = {name: [] for name in unknown}
         rules = self.rule_sets[kind.rules] if unknown else ()
         groups = [each for rule in rules for each in self._groups(rule)]
-        self.compared.take(len(groups))
+        self.compared.take(COMPARED * len(groups))
         for each in groups:
             if each.name in unknown:
                 named[each.name].append(each)
@@ -890,32 +926,32 @@ def _may_beat(rank: Rank, number: int, declared: FrozenSet[Declaration], mine: L
     return False
 
 
-def _set_attributes(page: Page, index: int, groups: Iterable[Group]) -> None:
+def _set_attributes(page: EditedPage, index: int, groups: Iterable[Group]) -> None:
     """Writes what older mail clients read of attributes, where the element has none of its own."""
     name = page.elements.names[index]
     for group in groups:
         value = lower(group.declarations[-1].value)
         for attribute, names, form in _ATTRIBUTES.get(group.name, ()):
             found = form(value)
-            if found and name in names and attribute not in page.elements.attributes[index]:
+            if found and name in names and attribute not in page.elements.plain[index]:
                 page.set_attribute(index, attribute, found)
 
 
 class Inliner:
-    """Writes a style sheet into the `style` attributes of many documents.
+    """Writes style sheets into the `style` attributes of many documents.
 
-    It takes the sheet and the options of `inline` once.
+    It takes the sheets and the options of `inline` once.
     """
 
     def __init__(
         self,
-        css: "Union[str, StyleSheet]" = "",
+        css: Css = "",
         *,
         folder: Optional[Name] = None,
         load: Optional[Load] = None,
         base_url: Optional[str] = None,
-        preserve: Optional[str] = None,
-        ignore: Optional[str] = None,
+        preserve: Optional[Selectors] = None,
+        ignore: Optional[Selectors] = None,
         keep_style: bool = False,
         remove_classes: bool = False,
         attributes: bool = False,
@@ -924,10 +960,9 @@ class Inliner:
         limit: Optional[int] = library.USUAL_LIMIT,
         answer_limit: Optional[int] = library.USUAL_ANSWER_LIMIT,
     ) -> None:
-        """Takes what `inline` does. The sheet is read at the first document."""
-        text = _text_of(css)
-        text.encode("utf-8")
-        _expect_no_name(text)
+        """Takes what `inline` does. The sheets are read at the first document."""
+        if base_url is not None:
+            library.expect_text(base_url)
         limits = library.limit_of(limit), library.limit_of(answer_limit)
         named = folder, load, base_url, preserve, ignore
         chosen = keep_style, remove_classes, attributes, as_attributes, important
@@ -943,20 +978,25 @@ class Inliner:
         report: Optional[List[NotWritten]] = None,
     ) -> Document:
         """Returns a document with the sheets in its `style` attributes, as `inline` does."""
+        if report is not None and not isinstance(report, list):
+            raise TypeError(f"a list is expected for the report, not {type(report).__name__}")
         has_xml = is_xml_name(os.fspath(at or "")) if is_xml is None else is_xml
         if has_xml and is_part:
             raise ValueError("only a document in HTML can be a part of a page")
         if isinstance(html, bytes):
             text, encode = decode_page(html)
             encode.expect_same(text, html)
-            page = Page(text, encode.lacks, is_xml=has_xml, is_part=is_part)
+            page = EditedPage(text, encode.lacks, is_xml=has_xml, is_part=is_part)
             return encode(self._inlined(page, at, report))
         library.expect_text(html)
+        expect_page(html)
         html.encode("utf-8")
-        page = Page(html, is_xml=has_xml, is_part=is_part)
+        page = EditedPage(html, is_xml=has_xml, is_part=is_part)
         return self._inlined(page, at, report)
 
-    def _inlined(self, page: Page, at: Optional[Name], report: Optional[List[NotWritten]]) -> str:
+    def _inlined(
+        self, page: EditedPage, at: Optional[Name], report: Optional[List[NotWritten]]
+    ) -> str:
         if page.is_doubtful:
             raise ValueError(
                 "browsers read the document in different ways: NUL, `search` or end tags"
@@ -970,14 +1010,14 @@ class Inliner:
 
 def inline(
     html: Document,
-    css: "Union[str, StyleSheet]" = "",
+    css: Css = "",
     *,
     at: Optional[Name] = None,
     folder: Optional[Name] = None,
     load: Optional[Load] = None,
     base_url: Optional[str] = None,
-    preserve: Optional[str] = None,
-    ignore: Optional[str] = None,
+    preserve: Optional[Selectors] = None,
+    ignore: Optional[Selectors] = None,
     keep_style: bool = False,
     remove_classes: bool = False,
     attributes: bool = False,
@@ -991,14 +1031,14 @@ def inline(
 ) -> Document:
     """Returns the document with style sheets written into `style` attributes.
 
-    The sheets are `css` and then the document's own `style` elements. Each element gets the
+    The sheets are `css`, one or several, and then the document's own `style` elements. Each element gets the
     declarations that win on it, and after them those of its own `style` attribute, so that its own
     are stronger, unless one of a sheet is important and they are not. Rules that depend on a state
     of the page (`:hover`), unsupported ones, and at-rules stay in a `style` element, as does one
     for some media only. They get `!important` where they override what is written, and so does what
     overrides them; where that would not be exact on all elements, or with `important=False`, what
-    they could override stays, too. Everything else is unchanged, byte for byte. A document in bytes
-    is returned in bytes. `ValueError` is raised for one in bytes that would be written otherwise, and
+    they could override stays, too. All other text is unchanged. A document in bytes is
+    returned in bytes, in its encoding. `ValueError` is raised for one in bytes that would be written otherwise, and
     for css that no escape keeps in its `style` element.
 
     Sheets that `link rel=stylesheet` and `@import` name are written, too, if they are files in
@@ -1037,22 +1077,16 @@ def inline(
     return inliner.inline(html, at=at, is_xml=is_xml, is_part=is_part, report=report)
 
 
-def _text_of(css: "Union[str, StyleSheet]") -> str:
-    """Returns the text of a sheet, which has read it, or a text itself."""
-    if not isinstance(css, str):
-        from ._sheet import StyleSheet, text_of
-
-        if isinstance(css, StyleSheet):
-            return text_of(css)
-        library.expect_text(css)
+def _each_of(css: Css) -> Sequence[Union[str, StyleSheet]]:
+    """Returns the sheets that are one or several. Bytes are none, as `_text_of` says."""
+    if isinstance(css, (str, bytes, bytearray)) or not isinstance(css, Sequence):
+        return (css,)
     return css
 
 
-def _expect_no_name(css: str) -> None:
-    """Raises `ValueError` for the name of a style sheet in place of its text."""
-    name = css.strip(BLANKS)
-    if lower(name).endswith(".css") and not _OF_SHEETS.intersection(name):
-        raise ValueError(
-            f"{name!r} is the name of a style sheet, not its text: pass what open(..) reads, or"
-            " folder= for the sheets that the document links to"
-        )
+def _text_of(css: Union[str, StyleSheet]) -> str:
+    """Returns the text of a sheet, which has read it, or a text itself."""
+    if isinstance(css, StyleSheet):
+        return text_of(css)
+    library.expect_text(css)
+    return css

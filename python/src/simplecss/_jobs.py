@@ -10,22 +10,23 @@ from pathlib import Path
 from typing import Any, Iterator, List, NamedTuple, Optional
 
 from . import _lint
+from ._clean import Cleaned, clean, clean_style, is_clean, is_clean_style
 from ._device import Device
-from ._fixes import fixed
 from ._elements import TreeError
 from ._imports import LOSES
 from ._inline import inline
-from ._library import LibraryError, LimitError, Room, most_written
+from ._library import InternalError, LibraryError, LimitError, Room, most_written
 from ._linked import Name, Shelf, Unread, sheets_of
-from ._minify import minify
+from ._minify import prettify, short_text
 from ._output import json_line, printable, printable_lines
 from ._selectors import SelectorError
-from ._sheet import StyleSheet
+from ._sheet import StyleSheet, sheet_of_texts
 from ._split import NotWritten
 from ._tree import Element, Tree, elements_of
 from ._words import words_of
+from ._writing import write_file
 from ._xml import is_xml
-from .html import decode_page
+from ._encoding import EncodingError, decode_page, text_of_page
 
 DONE = 0
 REFUSED = 1
@@ -86,6 +87,8 @@ class Job:
             message, status = "out of memory", OUT_OF_MEMORY
         except LibraryError as error:
             message, status = str(error), UNREADABLE
+        except InternalError as error:
+            message, status = f"a mistake in simplecss itself: {error}", UNREADABLE
         return Outcome(name, b"", [*self._messages, message], status)
 
     def _do(self, name: str) -> Outcome:
@@ -93,7 +96,8 @@ class Job:
 
     def _outcome(self, name: str, **more: Any) -> Outcome:
         """Returns what was written and said."""
-        output = "".join(self._parts).encode("utf-8")
+        # A name of a file may be no text.
+        output = "".join(self._parts).encode("utf-8", "surrogateescape")
         return Outcome(name, output, self._messages, **more)
 
     # ---- what is read
@@ -111,6 +115,10 @@ class Job:
         is_named = folder is not None or name == INPUT
         return folder if is_named else os.path.dirname(name) or "."
 
+    def _page(self, name: str) -> str:
+        """Returns the text of a page."""
+        return read_page(name, self._is_xml(name))
+
     def _tree(self, name: str, text: str) -> Tree:
         """Returns the tree of a page."""
         return tree_of(name, text, self._is_xml(name))
@@ -119,7 +127,7 @@ class Job:
         """Returns the sheet of files, or of a page if there are none."""
         grammar = self.words.grammar
         if self.words.sheets:
-            return StyleSheet(*map(read, self.words.sheets), grammar=grammar)
+            return sheet_of_texts(map(read, self.words.sheets), grammar=grammar)
         place, folder = self._place(name), self._folder(name)
         sheet = StyleSheet.of_page(tree, at=place, folder=folder, grammar=grammar)
         self._say_unread(name, sheet.unread)
@@ -160,7 +168,7 @@ class Match(Job):
     """Writes which rules match each element."""
 
     def _do(self, name: str) -> Outcome:
-        text = read_page(name)
+        text = self._page(name)
         tree = self._tree(name, text)
         sheet = self._sheet(name, tree)
         room = Room(most_written(len(text)), "characters")
@@ -180,7 +188,7 @@ class Style(Job):
     """Writes which declaration of a name wins on each element."""
 
     def _do(self, name: str) -> Outcome:
-        text = read_page(name)
+        text = self._page(name)
         tree = self._tree(name, text)
         sheet = self._sheet(name, tree)
         room = Room(most_written(len(text)), "characters")
@@ -201,11 +209,11 @@ class Select(Job):
     """Writes what is asked for of the elements that selectors match."""
 
     def _do(self, name: str) -> Outcome:
-        tree = self._tree(name, read_page(name))
+        tree = self._tree(name, self._page(name))
         try:
             found = tree.select(self.words.selectors, grammar=self.words.grammar)
         except SelectorError as error:
-            raise Failure(f"selector refused: {error}", REFUSED) from None
+            raise Failure(f"selector refused: {error.message}", REFUSED) from None
         if self.words.count:
             count = str(len(found))
             self._write(f"{printable(name)}:{count}\n" if self.words.is_of_many else f"{count}\n")
@@ -247,8 +255,11 @@ class Inline(Job):
         if self.words.json:
             html, rest = decode_page(result)[0], [each._asdict() for each in left]
             self._write(json_line({"html": html, "left": rest}))
-            return self._outcome(name)
-        return Outcome(name, result, self._messages)
+        elif self._is_terminal:
+            self._write(self._shown(decode_page(result)[0]))
+        else:
+            return Outcome(name, result, self._messages)
+        return self._outcome(name)
 
     def _inlined(self, name: str, left: List[NotWritten]) -> bytes:
         """Returns a page with its sheets written, and notes what is not."""
@@ -256,7 +267,7 @@ class Inline(Job):
         try:
             return inline(
                 read_bytes(name),
-                "\n".join(map(read, words.sheets)),
+                list(map(read, words.sheets)),
                 at=self._place(name),
                 folder=self._folder(name),
                 base_url=words.base_url,
@@ -271,6 +282,8 @@ class Inline(Job):
                 is_part=words.part,
                 report=left,
             )
+        except EncodingError as error:
+            raise Failure(f"cannot read {name}: {error.reason}", UNREADABLE) from None
         except UnicodeDecodeError as error:
             raise Failure(f"cannot read {name}: not {error.encoding}", UNREADABLE) from None
         except (LimitError, UnicodeEncodeError):
@@ -286,32 +299,40 @@ class Lint(Job):
 
     def _do(self, name: str) -> Outcome:
         words = self.words
-        if not _lint.is_page(name):
-            text = self._fixed(name, read(name)) if words.fix else read(name)
-            return Outcome(name, mistakes=_lint.findings(name, text, words.all, words.grammar))
-        shelf = Shelf(self._place(name), self._folder(name))
+        # Standard input is read and reported by this name.
+        known = words.stdin_filename or name if name == INPUT else name
+        if _lint.is_page(known):
+            return self._page_linted(name, known)
+        text = read(name)
+        if words.fix and not _lint.is_component(known):
+            text = self._fixed(name, text)
+        if words.fix and name == INPUT:
+            self._write(self._shown(text))
+        found = _lint.findings(known, text, words.all, words.grammar)
+        return self._outcome(known, mistakes=found)
+
+    def _page_linted(self, name: str, known: str) -> Outcome:
+        """Finds the mistakes in the sheets of a page, which is reported by another name."""
+        shelf = Shelf(self._place(known), self._folder(known))
+        has_xml = self._is_xml(known)
         try:
-            text = read_page(name)
-            found = _lint.findings(
-                name,
-                text,
-                words.all,
-                words.grammar,
-                shelf=shelf,
-                has_xml=self._is_xml(name),
-            )
+            text = read_page(name, has_xml)
+            if self.words.fix and name == INPUT:
+                self._write(self._shown(text))
+            all_, grammar = self.words.all, self.words.grammar
+            found = _lint.findings(known, text, all_, grammar, shelf=shelf, has_xml=has_xml)
         except TreeError as error:
-            raise Failure(f"{name}:{error}", UNREADABLE) from None
-        self._say_unread(name, tuple(shelf.unread))
-        return self._outcome(name, mistakes=found)
+            raise Failure(f"{known}:{error}", UNREADABLE) from None
+        self._say_unread(known, tuple(shelf.unread))
+        return self._outcome(known, mistakes=found)
 
     def _fixed(self, name: str, text: str) -> str:
-        """Corrects the sheet of a file in place, and returns it."""
-        result = fixed(text)
+        """Corrects the sheet of a file in place, and returns it. That of standard input is written."""
+        result = _lint.fixed(text)
         if result != text and name != INPUT:
             has_mark = read_bytes(name).startswith(codecs.BOM_UTF8)
             try:
-                Path(name).write_bytes(codecs.BOM_UTF8 * has_mark + result.encode("utf-8"))
+                write_file(name, codecs.BOM_UTF8 * has_mark + result.encode("utf-8"))
             except OSError as error:
                 raise Failure(f"cannot write {name}: {error.strerror}", UNREADABLE) from None
         return result
@@ -321,16 +342,63 @@ class Minify(Job):
     """Writes the short text of a sheet."""
 
     def _do(self, name: str) -> Outcome:
-        text = minify(read(name))
-        self._write(json_line({"file": name, "css": text}) if self.words.json else f"{text}\n")
+        text = short_text(read(name))
+        shown = f"{self._shown(text)}\n"
+        self._write(json_line({"file": name, "css": text}) if self.words.json else shown)
         return self._outcome(name)
+
+
+class Prettify(Job):
+    """Writes a sheet in lines."""
+
+    def _do(self, name: str) -> Outcome:
+        text = prettify(read(name))
+        shown = self._shown(text)
+        self._write(json_line({"file": name, "css": text}) if self.words.json else shown)
+        return self._outcome(name)
+
+
+class Clean(Job):
+    """Writes what a policy allows of a sheet or a style attribute, or says whether it is clean."""
+
+    def _do(self, name: str) -> Outcome:
+        text, words = read(name), self.words
+        try:
+            if words.check:
+                return Outcome(name, status=DONE if self._is_clean(text) else REFUSED)
+            found = self._cleaned(text)
+        except UnicodeEncodeError:
+            raise
+        except ValueError as error:
+            raise Failure(str(error), USAGE) from None
+        if words.json:
+            dropped = [each._asdict() for each in found.dropped]
+            self._write(json_line({"file": name, "css": found.text, "dropped": dropped}))
+            return self._outcome(name)
+        self._write(self._shown(found.text))
+        for each in found.dropped if words.report else ():
+            place = f"{name}:{each.row}:{each.column}"
+            self._messages.append(f"{place}: '{each.text}' is dropped: {each.reason}")
+        return self._outcome(name)
+
+    def _cleaned(self, text: str) -> Cleaned:
+        words = self.words
+        if words.style:
+            return clean_style(text, policy=words.policy)
+        return clean(text, scope=words.scope, policy=words.policy)
+
+    def _is_clean(self, text: str) -> bool:
+        words = self.words
+        if words.style:
+            return is_clean_style(text, policy=words.policy)
+        return is_clean(text, scope=words.scope, policy=words.policy)
 
 
 class Linked(Job):
     """Writes the files of the sheets that a page links to, each with a NUL after it."""
 
     def _do(self, name: str) -> Outcome:
-        elements = elements_of(self._tree(name, read_page(name)))
+        elements = elements_of(self._tree(name, self._page(name)))
         shelf = Shelf(self._place(name), self._folder(name))
         for _ in sheets_of(elements, shelf):
             # Each is read as it is asked for.
@@ -361,8 +429,11 @@ def read(name: str) -> str:
         raise Failure(f"cannot read {name}: not UTF-8", UNREADABLE) from None
 
 
-def read_page(name: str) -> str:
-    """Returns the text of a page, in the encoding that it names."""
+def read_page(name: str, has_xml: bool) -> str:
+    """Returns the text of a page as a browser reads it, which refuses bytes of XML that are not in the
+    encoding that it names."""
+    if not has_xml:
+        return text_of_page(read_bytes(name))
     try:
         return decode_page(read_bytes(name))[0]
     except UnicodeDecodeError as error:

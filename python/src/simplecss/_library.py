@@ -49,12 +49,18 @@ class LibraryError(OSError):
     """The C library is missing, or this package cannot use it."""
 
 
+class InternalError(RuntimeError):
+    """The library or this package contradicts itself, which is a mistake in them."""
+
+
 class LimitError(ValueError):
     """A style sheet or an answer would be larger than its limit."""
 
 
 def limit_of(limit: Optional[int]) -> int:
     """Returns a limit as a number. `None` is no limit."""
+    if limit is not None and not isinstance(limit, int):
+        raise TypeError(f"a limit is a whole number or None, not {type(limit).__name__}")
     return NO_LIMIT if limit is None else int(min(max(limit, 0), NO_LIMIT))
 
 
@@ -102,11 +108,7 @@ class Answer(NamedTuple):
     fault: Optional[TreeFault]
 
 
-# The state of the element that `:scope` matches.
-_SCOPE = 64
-
-
-class _TreeFault(ctypes.Structure):
+class FaultOfTree(ctypes.Structure):
     _fields_ = [("fault", ctypes.c_uint32), ("element", ctypes.c_size_t)]
 
 
@@ -268,6 +270,40 @@ class AskedArrays:
         )
 
 
+class _Policy(ctypes.Structure):
+    _fields_ = [
+        ("texts", ctypes.c_char_p),
+        ("texts_len", ctypes.c_size_t),
+        ("ends", _SIZES),
+        ("ends_count", ctypes.c_size_t),
+        ("properties", ctypes.c_size_t),
+        ("functions", ctypes.c_size_t),
+        ("strings", ctypes.c_size_t),
+        ("pseudos", ctypes.c_size_t),
+        ("important", ctypes.c_size_t),
+        ("itself", ctypes.c_size_t),
+        ("longest", ctypes.c_size_t),
+    ]
+
+
+class PolicyArrays:
+    """A scope and the lists of a policy, which a call takes as a structure."""
+
+    def __init__(self, scope: bytes, lists: Sequence[Sequence[bytes]], *numbers: int) -> None:
+        """Takes five lists of names, of properties, functions, properties with strings, pseudo-classes
+        and words of media queries, and the numbers after how many there are."""
+        names = [scope, *itertools.chain.from_iterable(lists)]
+        ends, joined = ends_of(map(len, names)), b"".join(names)
+        self.structure = _Policy(
+            joined,
+            len(joined),
+            pointer_to(ends),
+            len(ends),
+            *map(len, lists[:4]),
+            *numbers,
+        )
+
+
 class TreeArrays:
     """The arrays of a tree, which a call takes as a structure."""
 
@@ -290,8 +326,7 @@ class TreeArrays:
         """
         strings = [*strings, *states, *(name for name, _ in prefixes)]
         self.count = len(shapes) // 4
-        self._whole: Optional[TreeArrays] = None
-        self._elements = (_Element * self.count).from_buffer_copy(_sizes(shapes))
+        elements = (_Element * self.count).from_buffer_copy(_sizes(shapes))
         joined = "".join(strings).encode("utf-8")
         is_ascii = len(joined) == sum(map(len, strings))
         ends = ends_of(
@@ -301,7 +336,7 @@ class TreeArrays:
         count = len(attributes) // 2
         places = (_Attribute * count).from_buffer_copy(_sizes(attributes))
         self.structure = _Tree(
-            ctypes.cast(self._elements, ctypes.POINTER(_Element)),
+            ctypes.cast(elements, ctypes.POINTER(_Element)),
             self.count,
             joined,
             len(joined),
@@ -314,20 +349,16 @@ class TreeArrays:
             len(numbers),
         )
 
-    def with_scope(self, index: int) -> "TreeArrays":
-        """Returns the same tree in which `:scope` matches the element at an index."""
-        scoped = copy.copy(self)
-        # The strings are those of this one.
-        scoped._whole = self
-        scoped._elements = type(self._elements).from_buffer_copy(self._elements)
-        scoped._elements[index].states += _SCOPE
-        scoped.structure = _Tree.from_buffer_copy(self.structure)
-        scoped.structure.elements = ctypes.cast(scoped._elements, ctypes.POINTER(_Element))
-        return scoped
 
-
+# The types of what a call takes that is made often: to wrap each number would take long.
+_ARGUMENTS = {
+    "simplecss_page_select": (
+        *(ctypes.c_void_p, ctypes.c_char_p, *[ctypes.c_size_t] * 5),
+        *(ctypes.c_void_p, ctypes.c_size_t, ctypes.c_void_p),
+    )
+}
 # What has a structure that a call takes.
-_ARRAYS = (SheetArrays, OwnArrays, AskedArrays, TreeArrays)
+_ARRAYS = (SheetArrays, OwnArrays, AskedArrays, PolicyArrays, TreeArrays)
 
 
 def library_path() -> str:
@@ -397,6 +428,8 @@ def _function(name: str) -> Any:
     except AttributeError:
         raise LibraryError(f"{library_path()} has no {name}") from None
     function.restype = ctypes.c_uint32
+    if name in _ARGUMENTS:
+        function.argtypes = _ARGUMENTS[name]
     return function
 
 
@@ -436,6 +469,41 @@ def _buffer_type(bits: int) -> Any:
     return ctypes.c_char * 2**bits
 
 
+def _words_of(arguments: Sequence[Any]) -> List[Any]:
+    """Returns arguments as a function of the library takes them."""
+    words: List[Any] = []
+    for argument in arguments:
+        if isinstance(argument, int):
+            words.append(ctypes.c_size_t(argument))
+            continue
+        if isinstance(argument, (ctypes.Structure, *_ARRAYS)):
+            structure = argument if isinstance(argument, ctypes.Structure) else argument.structure
+            words.append(ctypes.byref(structure))
+            continue
+        words.append(pointer_to(argument) if isinstance(argument, array.array) else argument)
+        words.append(ctypes.c_size_t(len(argument)))
+    return words
+
+
+def _expect_memory(name: str, status: int) -> None:
+    """Raises `MemoryError` if an allocation of a call failed."""
+    if status == OUT_OF_MEMORY:
+        raise MemoryError(name)
+
+
+def status_of(name: str, *arguments: Any) -> int:
+    """Calls a function of the library that is given all that it takes, and returns its status."""
+    words = arguments if name in _ARGUMENTS else _words_of(arguments)
+    status = int(_function(name)(*words))
+    _expect_memory(name, status)
+    return status
+
+
+def run(name: str, *arguments: Any) -> None:
+    """Calls a function of the library that says nothing."""
+    _function(name)(*_words_of(arguments))
+
+
 def call(
     name: str,
     *arguments: Any,
@@ -450,21 +518,10 @@ def call(
     of the first buffer, of items of `width` bytes; a call that needs a longer one is made again. `most`
     is passed last to a function that takes it: an answer of more items raises `LimitError`.
     """
-    function = _function(name)
-    words: List[Any] = []
-    for argument in arguments:
-        if isinstance(argument, int):
-            words.append(ctypes.c_size_t(argument))
-            continue
-        if isinstance(argument, (ctypes.Structure, *_ARRAYS)):
-            structure = argument if isinstance(argument, ctypes.Structure) else argument.structure
-            words.append(ctypes.byref(structure))
-            continue
-        words.append(pointer_to(argument) if isinstance(argument, array.array) else argument)
-        words.append(ctypes.c_size_t(len(argument)))
+    function, words = _function(name), _words_of(arguments)
     if most is not None:
         words.append(ctypes.c_size_t(most))
-    found = _TreeFault()
+    found = FaultOfTree()
     length = ctypes.c_size_t(0)
     tail: Tuple[Any, ...] = (ctypes.byref(found),) if with_fault else ()
     while True:
@@ -473,8 +530,7 @@ def call(
         if status != TOO_SMALL:
             break
         room = length.value
-    if status == OUT_OF_MEMORY:
-        raise MemoryError(name)
+    _expect_memory(name, status)
     if status == TOO_MANY_LAYERS:
         raise LimitError("the sheets have more than 1,024 layers")
     if status == TOO_MANY_DECLARATIONS:
@@ -486,11 +542,49 @@ def call(
     return Answer(status, output, fault)
 
 
+def expect_done(name: str, status: int) -> None:
+    """Raises `InternalError` where a call, which had no reason to, failed."""
+    if status != DONE:
+        raise InternalError(f"{name}: unexpected status {status}")
+
+
 def output_of(name: str, answer: Answer) -> bytes:
     """Returns what a call wrote, which had no reason to fail."""
-    if answer.status != DONE:
-        raise LibraryError(f"{name}: unexpected status {answer.status}")
+    expect_done(name, answer.status)
     return answer.output
+
+
+def page_of(
+    text: bytes, space: int, context: bytes, flags: int
+) -> Tuple["array.array[int]", bytes]:
+    """Returns the numbers and the strings of an HTML page, or of the content of an element in a namespace. One
+    whose elements are nested in a way that takes time or elements out of proportion raises `LimitError`.
+    """
+    name = "simplecss_html"
+    function = _function(name)
+    words: List[Any] = [
+        *(text, ctypes.c_size_t(len(text)), ctypes.c_size_t(space)),
+        *(context, ctypes.c_size_t(len(context)), ctypes.c_size_t(flags)),
+    ]
+    count, size = ctypes.c_size_t(len(text) // 2 + 1024), ctypes.c_size_t(len(text) + 1024)
+    while True:
+        numbers = array.array(SIZE, bytes(count.value * WIDTH))
+        strings = _buffer_type(size.value.bit_length())()
+        rooms = ctypes.c_size_t(count.value), ctypes.c_size_t(size.value)
+        status = function(
+            *(*words, pointer_to(numbers), rooms[0], ctypes.byref(count)),
+            *(strings, rooms[1], ctypes.byref(size)),
+        )
+        if status != TOO_SMALL:
+            break
+    if status == OUT_OF_MEMORY:
+        raise MemoryError(name)
+    if status == TOO_MANY_DECLARATIONS:
+        raise LimitError(
+            "elements are nested in a way that takes time or elements out of proportion"
+        )
+    expect_done(name, status)
+    return numbers[: count.value], ctypes.string_at(strings, size.value)
 
 
 def numbers_of(

@@ -35,12 +35,15 @@ from ._reading import (
 from ._tokens import decoded
 from ._urls import SCHEME, joined
 from ._words import BLANKS, lower, words_of
+from ._xml import SheetLink
 
 if TYPE_CHECKING:
     from pathlib import Path
 
-# How deep sheets import one another.
-_DEEPEST = 16
+# How deep sheets import one another, and how many that a page names are read.
+_DEEPEST, _MOST_SHEETS = 16, 256
+# How many times a character counts of a sheet that was read before.
+_AGAIN = 10
 _DATA = "data:"
 
 Name = Union[str, "os.PathLike[str]"]
@@ -86,6 +89,16 @@ def _of_data(url: str) -> str:
     return (base64.b64decode(data) if words[-1] == "base64" else data).decode("utf-8-sig")
 
 
+def _is_of_data(url: str) -> bool:
+    """Whether a url has the sheet itself."""
+    return lower(url[: len(_DATA)]) == _DATA
+
+
+def _is_of_top(url: str) -> bool:
+    """Whether a url is taken from the top folder."""
+    return url.startswith("/") and not url.startswith("//")
+
+
 class Shelf:
     """Where the sheets that a page names are: in a folder, or what a callable returns for their
     urls. Without these, only those of data are read."""
@@ -106,49 +119,87 @@ class Shelf:
             self._folder = Path(folder).resolve()
         self._load = load
         top = "" if folder is None else _url_of(folder).rstrip("/") + "/"
-        self._base = top if at is None else _url_of(at)
+        self._base = self._page = top if at is None else _url_of(at)
         # What all together may have.
         self.room = library.Room(limit, "characters of linked sheets")
         self.unread: List[Unread] = []
-        # The files that were read, by their urls.
+        # How many sheets the page has named.
+        self._count = 0
+        # The sheets that were asked for, or why there is none, by their names; and their files.
+        self._answers: Dict[str, Tuple[Optional[str], str]] = {}
         self.files: Dict[str, Path] = {}
         # The numbers of the layers without a name that sheets are imported into.
         self.layers = itertools.count(1)
 
     def take_base(self, elements: Elements) -> None:
         """Takes what the first `base` of a page says."""
-        for name, attributes in zip(elements.names, elements.attributes):
+        for name, attributes in zip(elements.names, elements.plain):
             if name == "base" and "href" in attributes:
                 href = attributes["href"].strip(BLANKS)
                 self._base = joined(self._base, href) if href else self._base
                 return
+
+    def before_base(self, url: str) -> str:
+        """Returns a url that a page names before its `base`, which is not taken from that."""
+        return url if self._base == self._page else joined(self._page, url)
 
     def place_of(self, url: str) -> str:
         """Returns the whole url of a sheet."""
         return joined(self._base, url)
 
     def name_of(self, url: str) -> str:
-        """Returns the whole url of a sheet without its fragment: of two urls that differ in that alone
-        the sheet is the same."""
-        return self.place_of(url).partition("#")[0]
+        """Returns the whole url of a sheet without its fragment, and that of a file without its query: of
+        two urls that differ in that alone the sheet is the same."""
+        if self._load is not None or _is_of_data(url):
+            return self.place_of(url).partition("#")[0]
+        place = url if _is_of_top(url) else self.place_of(url)
+        return place.partition("#")[0].partition("?")[0]
+
+    @property
+    def is_full(self) -> bool:
+        """Whether the page has named as many sheets as are read."""
+        return self._count >= _MOST_SHEETS
+
+    def may_add(self, url: str) -> bool:
+        """Whether one more sheet may be read that the page names. If not, notes that it is not read."""
+        if self.is_full:
+            self.refuse(url, f"the page names more than {_MOST_SHEETS} sheets")
+            return False
+        self._count += 1
+        return True
 
     def read(self, url: str) -> Optional[str]:
-        """Returns the sheet at a url, or `None`, and notes why it is not read."""
+        """Returns the sheet that the page names by a url, or `None`, and notes why it is not read."""
+        return self.find(url) if self.may_add(url) else None
+
+    def find(self, url: str) -> Optional[str]:
+        """Returns the sheet at a url, or `None`, and notes why it is not read. Each is asked for once."""
+        name = self.name_of(url)
+        known = self._answers.get(name)
+        if known is None:
+            known = self._answers[name] = self._answer(url, name)
+        elif known[0] is not None:
+            self.room.take(_AGAIN * len(known[0]))
+        css, reason = known
+        if css is None:
+            self.refuse(url, reason)
+        return css
+
+    def _answer(self, url: str, name: str) -> Tuple[Optional[str], str]:
+        """Returns the sheet at a url, or `None` and why it is not read."""
         try:
-            if lower(url[: len(_DATA)]) == _DATA:
+            if _is_of_data(url):
                 self.room.take(len(url))
-                return _of_data(url)
-            return self._loaded(url) if self._load is not None else self._of_file(url)
+                return _of_data(url), ""
+            return (self._loaded(url) if self._load is not None else self._of_file(url, name), "")
         except library.LimitError:
             raise
         except _Refused as error:
-            reason = str(error)
+            return None, str(error)
         except UnicodeDecodeError:
-            reason = "its file is not UTF-8"
+            return None, "its file is not UTF-8"
         except (OSError, RuntimeError, ValueError):
-            reason = "its file cannot be read"
-        self.refuse(url, reason)
-        return None
+            return None, "its file cannot be read"
 
     def refuse(self, url: str, reason: str) -> None:
         """Notes why a sheet is not read."""
@@ -163,11 +214,11 @@ class Shelf:
         self.room.take(len(css))
         return css
 
-    def _of_file(self, url: str) -> str:
+    def _of_file(self, url: str, name: str) -> str:
         file = self._file_of(url)
         self.room.take(file.stat().st_size)
         css = file.read_bytes().decode("utf-8-sig")
-        self.files[url] = file
+        self.files[name] = file
         return css
 
     def _file_of(self, url: str) -> Path:
@@ -178,7 +229,7 @@ class Shelf:
         import urllib.parse
         from pathlib import PurePosixPath
 
-        is_of_top = url.startswith("/") and not url.startswith("//")
+        is_of_top = _is_of_top(url)
         found = urllib.parse.urlsplit(url if is_of_top else self.place_of(url))
         base = urllib.parse.urlsplit(self._base)
         path = urllib.parse.unquote(found.path)
@@ -203,7 +254,7 @@ class Shelf:
 class PageSheet(NamedTuple):
     """A sheet of a page: what it has, the group rules that all of it is in, and its url, if it has
     one; where the first sheet is imported that it imports, and how many sheets before it come from
-    that and others."""
+    that and others; and where it imports sheets that were not read."""
 
     source: Source
     statements: List[Statement]
@@ -211,6 +262,7 @@ class PageSheet(NamedTuple):
     url: Optional[str]
     start: int = 0
     imports: int = 0
+    left: Tuple[Span, ...] = ()
 
 
 class Import(NamedTuple):
@@ -298,7 +350,7 @@ def _is_style(attributes: Dict[str, str]) -> bool:
 
 def _is_sheet(elements: Elements, index: int) -> bool:
     """Whether an element is a style sheet or a link to one."""
-    name, attributes = elements.names[index], elements.attributes[index]
+    name, attributes = elements.names[index], elements.plain[index]
     if name == "link":
         return is_sheet_link(attributes) and index not in elements.drawn
     return name == "style" and _is_style(attributes)
@@ -309,7 +361,7 @@ def in_use(elements: Elements) -> List[int]:
     sheet"): those without a title, and those of the first title of one that is no alternate.
     """
     found = [
-        (index, elements.attributes[index].get("title", ""))
+        (index, elements.plain[index].get("title", ""))
         for index, name in enumerate(elements.names)
         if name in ("style", "link") and index not in elements.formulas
         if _is_sheet(elements, index)
@@ -317,26 +369,61 @@ def in_use(elements: Elements) -> List[int]:
     others = {
         index
         for index, _ in found
-        if elements.names[index] == "link" and is_alternate(elements.attributes[index])
+        if elements.names[index] == "link" and is_alternate(elements.plain[index])
     }
-    titles = (title for index, title in found if index not in others)
-    preferred = next(filter(None, titles), "")
+    titles = [title for index, title in found if index not in others]
+    preferred = next(filter(None, _with_links(elements, titles)), "")
     return [
         index for index, title in found if (title == preferred if title else index not in others)
     ]
 
 
+def _with_links(elements: Elements, titles: Sequence[str]) -> Iterator[str]:
+    """Yields titles of elements, and those of the instructions before and after these, that are no
+    alternates."""
+    links = [each for each in elements.links if not each.is_alternate]
+    yield from (each.title for each in links if not each.is_last)
+    yield from titles
+    yield from (each.title for each in links if each.is_last)
+
+
+def links_in_use(elements: Elements, is_last: bool) -> List[SheetLink]:
+    """Returns the instructions before the root of a document, or after it, whose sheets are in use."""
+    if not elements.links:
+        return []
+    used = in_use(elements)
+    titles = [elements.plain[index].get("title", "") for index in used]
+    preferred = next(filter(None, _with_links(elements, titles)), "")
+    return [
+        each
+        for each in elements.links
+        if each.is_last == is_last
+        if (each.title == preferred if each.title else not each.is_alternate)
+    ]
+
+
+def _sheets_of_links(links: Iterable[SheetLink], shelf: Shelf) -> Iterator[PageSheet]:
+    """Yields the sheets that instructions name."""
+    for each in links:
+        url = each.href if each.is_last else shelf.before_base(each.href)
+        css = shelf.read(url)
+        if css is not None:
+            yield from _with_imports(css, url, around_of(each.media), shelf, ())
+
+
 def sheets_of(elements: Elements, shelf: Shelf) -> Iterator[PageSheet]:
     """Yields the sheets of a page in the order of the cascade."""
     shelf.take_base(elements)
+    yield from _sheets_of_links(links_in_use(elements, False), shelf)
     for index in in_use(elements):
-        attributes = elements.attributes[index]
+        attributes = elements.plain[index]
         url = attributes.get("href", "").strip(BLANKS) if elements.names[index] == "link" else None
         css = elements.own_text_of(index) if url is None else None
         if url:
             css = shelf.read(url)
         if css is not None:
             yield from _with_imports(css, url, around_of(attributes.get("media", "")), shelf, ())
+    yield from _sheets_of_links(links_in_use(elements, True), shelf)
 
 
 def _with_imports(
@@ -351,9 +438,12 @@ def _with_imports(
     source, statements = read_sheet(css)
     above = (*above, shelf.name_of(url or ""))
     rules, count = imports_in(css), 0
+    left: List[Span] = []
     for each in rules:
         found = imported(each, url, shelf, above)
-        if found is None and each.layer is None:
+        if found is None:
+            left.append(each.span)
+        if found is None and (each.layer is None or shelf.is_full):
             continue
         inner = around + each.around(shelf)
         text, place = ("", None) if found is None else found
@@ -361,7 +451,7 @@ def _with_imports(
             count += 1
             yield sheet
     start = rules[0].span[0] if rules else 0
-    yield PageSheet(source, statements, around, url, start, count)
+    yield PageSheet(source, statements, around, url, start, count, tuple(left))
 
 
 class Piece(NamedTuple):
@@ -420,13 +510,13 @@ def imported(
     if not found.url:
         shelf.refuse(found.url, "its url is empty")
         return None
+    if not shelf.may_add(found.url):
+        return None
     place = joined(url or "", found.url)
     if shelf.name_of(place) in above:
         return Imported("", place)
     if len(above) >= _DEEPEST:
         shelf.refuse(found.url, f"it is imported through {_DEEPEST} others")
         return None
-    css = shelf.read(place)
-    if css is None:
-        return None
-    return Imported(css, place)
+    css = shelf.find(place)
+    return None if css is None else Imported(css, place)

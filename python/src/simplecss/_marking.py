@@ -16,6 +16,7 @@ from typing import (
     Dict,
     FrozenSet,
     Iterable,
+    Iterator,
     List,
     Mapping,
     NamedTuple,
@@ -40,6 +41,10 @@ HIGHEST: Rank = 2**62
 _OWN: Rank = 2**61
 # Where a rule may be that is in a layer, of which the place is not known: above what is important.
 LAYERED = Reach(Strength(HIGHEST, HIGHEST, 0), Strength(HIGHEST, HIGHEST, 0))
+
+# As how many rules of an answer two things count that are compared, and one that is built: so much longer
+# it takes to do that. By the usual limit, all takes about two seconds.
+COMPARED, BUILT = 8, 160
 
 # What goes back to what sheets say.
 BACK = frozenset(("revert-layer",))
@@ -89,6 +94,61 @@ class Rival(NamedTuple):
     is_layered: bool
 
 
+class _Staying(NamedTuple):
+    """Declarations of one importance of a block that may apply, and between which ranks they are; how
+    high they would be as important ones, and how many layers are before theirs."""
+
+    least: Rank
+    most: Rank
+    raised: Rank
+    layer: int
+    unit: Unit
+    said: "_Said"
+
+
+def _staying(rival: Rival, unit: Unit, declarations: List[Declaration]) -> _Staying:
+    """Returns declarations of one importance of a block."""
+    least, most = rival.reach
+    important = declarations[0].important
+    ranks = least.of(important), most.of(important), most.important
+    return _Staying(*ranks, most.layer, unit, _said(declarations))
+
+
+class _Part(NamedTuple):
+    """What a block that stays has of a family: what is not important, if its place is known, and whether
+    that may be made important; what is important; and the names that take part."""
+
+    plain: Optional[_Staying]
+    may_be_marked: bool
+    urgent: Optional[_Staying]
+    names: FrozenSet[str]
+
+
+def _part(rival: Rival, family: str) -> _Part:
+    """Returns what a block has of a family."""
+    block = rival.block
+    declared = block.families.get(family, [])
+    plain = [each for each in declared if not each.important and not rival.is_layered]
+    urgent = [each for each in declared if each.important]
+    unit = (block, family)
+    return _Part(
+        _staying(rival, unit, plain) if plain else None,
+        bool(plain) and block.can_mark(family),
+        _staying(rival, unit, urgent) if urgent else None,
+        frozenset(each.name for each in (*plain, *urgent)),
+    )
+
+
+# What declarations of one name say: of several equal ones no more than one does.
+_Said = Tuple[Declaration, ...]
+
+
+def _said(declarations: Sequence[Declaration]) -> _Said:
+    """Returns what declarations say."""
+    first = declarations[:1]
+    return tuple(first if all(each == first[0] for each in declarations) else declarations)
+
+
 class Rivals:
     """The blocks that stay and may apply to an element, by the families that they have."""
 
@@ -102,6 +162,15 @@ class Rivals:
         self.whole = self.by_family.get(EVERYTHING, [])
         # The families of which it is not decided yet what they say where nothing is written.
         self.waiting = set(self.by_family)
+        self._parts: Dict[str, List[_Part]] = {}
+
+    def parts_of(self, family: str) -> List[_Part]:
+        """Returns what those have of a family that have it."""
+        parts = self._parts.get(family)
+        if parts is None:
+            those = self.by_family.get(family, ())
+            parts = self._parts[family] = [_part(each, family) for each in those]
+        return parts
 
     def may_lose(self, family: str, rank: Rank) -> bool:
         """Whether one that has a family, or all, may be below a rank, or is in a layer."""
@@ -169,36 +238,6 @@ class _Base(NamedTuple):
     declarations: Tuple[Declaration, ...]
 
 
-class _Staying(NamedTuple):
-    """Declarations of one importance of a block that may apply, and between which ranks they are; how
-    high they would be as important ones, and how many layers are before theirs."""
-
-    least: Rank
-    most: Rank
-    raised: Rank
-    layer: int
-    unit: Unit
-    declarations: List[Declaration]
-
-
-def _staying(rival: Rival, unit: Unit, declarations: List[Declaration]) -> _Staying:
-    """Returns declarations of one importance of a block."""
-    least, most = rival.reach
-    important = declarations[0].important
-    ranks = least.of(important), most.of(important), most.important
-    return _Staying(*ranks, most.layer, unit, declarations)
-
-
-# What declarations of one name say: of several equal ones no more than one does.
-_Said = Tuple[Declaration, ...]
-
-
-def _said(declarations: Sequence[Declaration]) -> _Said:
-    """Returns what declarations say."""
-    first = declarations[:1]
-    return tuple(first if all(each == first[0] for each in declarations) else declarations)
-
-
 class _Ranked:
     """What declarations say, in the order of their ranks."""
 
@@ -256,19 +295,16 @@ class _Problem:
             elif each.name not in known_mine and not known.get(each.name):
                 self._bases.append(_Base(_OWN, (each,)))
 
-    def add(self, rival: Rival, family: str, is_animated: bool) -> None:
-        """Adds what a block that may apply has of the family, or of all."""
-        declared = rival.block.families.get(family, ())
-        plain = [each for each in declared if not each.important]
-        unit = (rival.block, family)
-        if plain and not rival.is_layered:
-            if is_animated or not rival.block.can_mark(family):
-                self._clauses.forbidden.add(unit)
-            self._normal.append(_staying(rival, unit, plain))
-        urgent = [each for each in declared if each.important]
-        if urgent:
-            self._important.append(_staying(rival, unit, urgent))
-        self._names.update(each.name for each in declared if each.important or not rival.is_layered)
+    def add(self, parts: Iterable[_Part], is_animated: bool) -> None:
+        """Adds what blocks that may apply have of the family, or of all."""
+        for each in parts:
+            if each.plain is not None:
+                if is_animated or not each.may_be_marked:
+                    self._clauses.forbidden.add(each.plain.unit)
+                self._normal.append(each.plain)
+            if each.urgent is not None:
+                self._important.append(each.urgent)
+            self._names.update(each.names)
 
     def solve(self) -> None:
         """Finds what must be important, and what cannot be."""
@@ -289,7 +325,7 @@ class _Problem:
         """What is important and stays is below what is important and written, which need not be
         important if all that stays and is so is above it."""
         written = [each for each in self._urgent if each.rank != _OWN]
-        above = _Ranked((-each.most, _said(each.declarations)) for each in self._important)
+        above = _Ranked((-each.most, each.said) for each in self._important)
         is_needed = any(
             above.has_other(bisect.bisect_right(above.ranks, -base.rank), _said(base.declarations))
             for base in written
@@ -306,11 +342,11 @@ class _Problem:
         """What is above something written must be important, unless that, or what stays and is
         important, would then be below it."""
         bases = _Ranked((base.rank, _said(base.declarations)) for base in self._bases)
-        above = _Ranked((-each.most, _said(each.declarations)) for each in self._normal)
+        above = _Ranked((-each.most, each.said) for each in self._normal)
         self.musts += (
             each.unit
             for each in self._normal
-            if bases.has_other(bisect.bisect_left(bases.ranks, each.most), _said(each.declarations))
+            if bases.has_other(bisect.bisect_left(bases.ranks, each.most), each.said)
         )
         weighed = (
             base.rank
@@ -401,7 +437,7 @@ class Marking:
         view = self._view_of(kind)
         names = view.names()
         rivals = view.rivals
-        self._room.take(len(view.mine) + sum(map(rivals.count, names)))
+        self._room.take(COMPARED * (len(view.mine) + sum(map(rivals.count, names))))
         if not rivals.every:
             return
         if not kind.has_tag or view.own is None or EVERYTHING in names:
@@ -410,9 +446,9 @@ class Marking:
                 self._conflict(kind, left_as_it_is(kind))
             return
         waiting = rivals.waiting - names
-        self._room.take(sum(map(rivals.count, waiting)))
+        self._room.take(COMPARED * sum(map(rivals.count, waiting)))
         rivals.waiting -= waiting
-        for family, problem in self._problems(view, names | waiting).items():
+        for family, problem in self._problems(view, names | waiting):
             problem.solve()
             if problem.has_no_way:
                 self._conflict(kind, {family})
@@ -426,29 +462,26 @@ class Marking:
         if rivals not in self._forbidden:
             self._forbidden.add(rivals)
             for family, those in rivals.by_family.items():
-                self._room.take(len(those))
+                self._room.take(COMPARED * len(those))
                 self._clauses.forbidden.update((each.block, family) for each in those)
 
-    def _problems(self, view: View, families: Set[str]) -> Dict[str, _Problem]:
-        """Returns the problems of families."""
+    def _problems(self, view: View, families: Set[str]) -> Iterator[Tuple[str, _Problem]]:
+        """Yields the problems of families."""
         mine: Dict[str, List[Group]] = {}
         for group in view.mine:
             mine.setdefault(family_of(group.name), []).append(group)
         own: Dict[str, List[Declaration]] = {}
         for each in view.own or ():
             own.setdefault(family_of(each.name), []).append(each)
-        found: Dict[str, _Problem] = {}
         rivals = view.rivals
         # Of others nothing stays that could be important.
         for family in families if rivals.whole else families & rivals.by_family.keys():
             problem = _Problem(mine.get(family, []), own.get(family, []), self._clauses)
             is_animated = family in self._animated or EVERYTHING in self._animated
-            for rival in rivals.by_family.get(family, ()):
-                problem.add(rival, family, is_animated)
-            for rival in rivals.whole if family != EVERYTHING else ():
-                problem.add(rival, EVERYTHING, is_animated)
-            found[family] = problem
-        return found
+            problem.add(rivals.parts_of(family), is_animated)
+            if family != EVERYTHING:
+                problem.add(rivals.parts_of(EVERYTHING), is_animated)
+            yield family, problem
 
 
 def raised_by(view: View, marked: Set[Unit]) -> Dict[str, Rank]:

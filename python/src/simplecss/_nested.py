@@ -3,8 +3,21 @@
 from __future__ import annotations
 
 import itertools
-from typing import Iterable, Iterator, List, NamedTuple, Optional, Sequence, Tuple
+from typing import (
+    AbstractSet,
+    Dict,
+    Iterable,
+    Iterator,
+    List,
+    Mapping,
+    NamedTuple,
+    Optional,
+    Sequence,
+    Set,
+    Tuple,
+)
 
+from ._declaration import Declaration
 from ._reading import (
     NESTED,
     BegunRule,
@@ -19,7 +32,9 @@ from ._reading import (
     Span,
     Statement,
     conditions_of,
+    is_supported,
 )
+from ._tokens import parts_of
 
 # In how many rules one may be that is looked into.
 DEEPEST = 64
@@ -29,12 +44,13 @@ _SKIPPED = frozenset((NESTED, "too deep"))
 
 class Block(NamedTuple):
     """The contents of the block of a style rule that has rules in it, or of a rule in one: where
-    they are in the sheet, what is before the blocks of the style rules around them, and the group
-    rules."""
+    they are in the sheet, what is before the blocks of the style rules around them, the group
+    rules, and what is before the block of the style rule that they are in."""
 
     span: Span
     parents: Tuple[str, ...]
     conditions: Tuple[Condition, ...]
+    head: str
 
 
 def has_rules(items: Iterable[BlockItem]) -> bool:
@@ -86,10 +102,10 @@ class _Reader:
             return _Open(None, "", depth)
         parents, conditions = outer.block.parents, outer.block.conditions
         if rule.condition is None:
-            block = Block(rule.inner, (*parents, outer.head), conditions)
-            return _Open(block, self._source.at(rule.head), depth)
+            head = self._source.at(rule.head)
+            return _Open(Block(rule.inner, (*parents, outer.head), conditions, head), head, depth)
         conditions = (*conditions, rule.condition)
-        return _Open(Block(rule.inner, parents, conditions), outer.head, depth)
+        return _Open(Block(rule.inner, parents, conditions, outer.head), outer.head, depth)
 
     def _outermost(self, begun: BegunRule) -> _Open:
         """Returns a style rule that is in no other, with its block if it is one of the rules."""
@@ -98,17 +114,21 @@ class _Reader:
             self._next += 1
         if self._next == len(rules) or rules[self._next].span[0] > at:
             return _Open(None, "", 0)
-        return _Open(_block_of(rules[self._next]), self._source.at(begun.head), 0)
+        head = self._source.at(begun.head)
+        return _Open(_block_of(rules[self._next], head), head, 0)
 
 
-def _block_of(rule: RuleSet) -> Block:
+def _block_of(rule: RuleSet, head: str) -> Block:
     """Returns the block of a style rule that is in no other."""
-    return Block((rule.head[1], rule.span[1]), (), conditions_of(rule.levels))
+    return Block((rule.head[1], rule.span[1]), (), conditions_of(rule.levels), head)
 
 
-def every_block(statements: Iterable[Statement], blocks: Iterable[Block]) -> List[Block]:
+def every_block(
+    source: Source, statements: Iterable[Statement], blocks: Iterable[Block]
+) -> List[Block]:
     """Returns the blocks of all style rules of a sheet, of which those that `blocks_of` returns are some."""
-    sets = (_block_of(each) for each in statements if isinstance(each, RuleSet))
+    rules = (each for each in statements if isinstance(each, RuleSet))
+    sets = (_block_of(each, source.at(each.head)) for each in rules)
     found = {each.span: each for each in itertools.chain(sets, blocks)}
     return [found[span] for span in sorted(found, key=lambda span: (span[0], -span[1]))]
 
@@ -119,6 +139,71 @@ def blocks_of(source: Source, statements: Iterable[Statement]) -> List[Block]:
     # Most have nothing but declarations.
     rules = [each for each in statements if isinstance(each, RuleSet) and has_rules(each.items)]
     return list(_Reader(source, rules).blocks()) if rules else []
+
+
+class UnsupportedIn(NamedTuple):
+    """An unsupported selector of the style rule that a block is in, and the declarations of the block."""
+
+    block: Block
+    selector: str
+    declarations: Tuple[Declaration, ...]
+
+
+class _List(NamedTuple):
+    """The selectors of a list that are not known to be supported, each with whether it is an unsupported
+    one, and whether all are known to be selectors."""
+
+    others: List[Tuple[str, bool]]
+    is_known: bool
+
+
+class _Lists:
+    """The lists of selectors of style rules, also of nested ones."""
+
+    def __init__(self) -> None:
+        self._read: Dict[str, _List] = {}
+
+    def read(self, head: str) -> _List:
+        """Returns what a list is."""
+        found = self._read.get(head)
+        if found is None:
+            found = self._read[head] = _list_of(head)
+        return found
+
+    def are_known(self, heads: Iterable[str]) -> bool:
+        """Whether all of these lists are known to be lists of selectors."""
+        return all(self.read(head).is_known for head in heads)
+
+
+def _list_of(head: str) -> _List:
+    """Returns what a list is. A selector may begin with a combinator, and what is before that does not
+    matter."""
+    texts = ("".join(each.text for each in part) for part in parts_of(head))
+    read = [(text, is_supported(f"& {text}") if text else None) for text in texts]
+    others = [(text, is_one is False) for text, is_one in read if is_one is not True]
+    return _List(others, all(is_one for _, is_one in others))
+
+
+def unsupported_in(
+    source: Source, blocks: Iterable[Block], placed: Mapping[int, Set[str]]
+) -> Iterator[UnsupportedIn]:
+    """Yields the unsupported selectors of the style rules of these blocks that have declarations. `placed`
+    has the supported ones of a block, by the offset at which its contents begin."""
+    declared: Optional[Dict[int, Tuple[Declaration, ...]]] = None
+    lists = _Lists()
+    for block in blocks:
+        start = block.span[0]
+        supported: AbstractSet[str] = placed.get(start, frozenset())
+        if supported and "," not in block.head:
+            continue
+        if declared is None:
+            declared = Contents(source).declared()
+        if start not in declared:
+            continue
+        if supported or lists.are_known((*block.parents, block.head)):
+            for text, is_one in lists.read(block.head).others:
+                if is_one or text not in supported:
+                    yield UnsupportedIn(block, text, declared[start])
 
 
 class Places:

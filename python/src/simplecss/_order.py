@@ -4,10 +4,10 @@ from __future__ import annotations
 
 import array
 import itertools
-from typing import Iterable, Iterator, List, Mapping, NamedTuple, Sequence, Tuple
+from typing import Dict, Iterable, Iterator, List, Mapping, NamedTuple, Sequence, Tuple
 
 from . import _library as library
-from ._reading import STYLE, Level, Source
+from ._reading import STYLE, Contents, Level, Source
 from ._tokens import keywords_in
 
 # The group rule that is a layer.
@@ -49,6 +49,47 @@ class Ordered(NamedTuple):
     layers: Layers
     selector: str
     is_ranked: bool = True
+
+
+def is_layer(prelude: str) -> bool:
+    """Whether `@layer` with this prelude may have a block: the library reads the rule in it."""
+    return _has_rule(f"@{LAYER} {prelude}\n{{{EVERY}{{a:0}}}}")
+
+
+def is_ended(prelude: str) -> bool:
+    """Whether a semicolon ends `@layer` with this prelude, and not a string or a bracket of it."""
+    return _has_rule(f"@{LAYER} {prelude};{EVERY}{{a:0}}")
+
+
+def _has_rule(css: str) -> bool:
+    """Whether a sheet has a rule that applies."""
+    sheets, room = library.SheetArrays([library.encode(css)], []), _OF_RULE + 1
+    try:
+        return len(library.numbers_of("simplecss_rules", sheets, library.NO_LIMIT, room=room)) > 0
+    except library.LimitError:
+        # It has more layers than the library orders.
+        return True
+
+
+def without_wrong_layers(css: str) -> str:
+    """Returns a sheet without the blocks of layers whose names are wrong, which browsers drop."""
+    if not count_layers(css):
+        return css
+    source = Source(css)
+    pieces: List[str] = []
+    at = 0
+    known: Dict[str, bool] = {}
+    for rule in Contents(source).rules():
+        if rule is None or rule.condition is None or rule.condition.name != LAYER:
+            continue
+        prelude = rule.condition.prelude
+        if prelude not in known:
+            known[prelude] = is_layer(prelude)
+        if rule.head[0] >= at and not known[prelude]:
+            pieces.append(source.at((at, rule.head[0])))
+            # After its end is a brace, if the end of the text does not close it.
+            at = min(rule.inner[1] + 1, len(source.data))
+    return " ".join([*pieces, source.at((at, len(source.data)))])
 
 
 class LayeredText:
@@ -131,7 +172,7 @@ def _places_in(text: str, count: int) -> List[_Place]:
     room = _OF_RULE * count + 1
     numbers = library.numbers_of("simplecss_rules", sheets, library.NO_LIMIT, room=room)
     if len(numbers) != _OF_RULE * count:
-        raise library.LibraryError("simplecss_rules: other rules than those of the sheet")
+        raise library.InternalError("simplecss_rules: other rules than those of the sheet")
     rows = zip(numbers[1::_OF_RULE], numbers[2::_OF_RULE])
     found: List[_Place] = []
     # What is important in an earlier layer is stronger.

@@ -7,6 +7,7 @@ import bisect
 import functools
 import operator
 import re
+from html import unescape
 from typing import (
     AbstractSet,
     Callable,
@@ -23,23 +24,13 @@ from typing import (
 )
 
 from ._elements import Elements, TreeError
-from ._linked import in_use, is_alternate, is_sheet_link
+from ._html import HTML, MATH, SVG, Attribute, HtmlPage, attributes_of
+from ._library import LimitError
+from ._linked import in_use, is_alternate, is_sheet_link, links_in_use
 from ._patterns import pattern
 from ._tokens import replaced, tokens
 from ._words import BLANKS, lower
-from ._xml import XmlError, read_xml
-from .html import (
-    HTML,
-    MATH,
-    SVG,
-    VOID,
-    Attribute,
-    Builder,
-    Node,
-    TooDeep,
-    attributes_of,
-    decode,
-)
+from ._xml import SheetLink, XmlError, read_xml
 
 _HEAD_PARTS = frozenset("head title meta link base style script noscript template".split())
 # The elements of HTML whose content is text up to an end tag of theirs, for some browsers at least.
@@ -47,6 +38,15 @@ _RAW = frozenset("iframe noembed noframes noscript script style textarea title x
 # The element of which older browsers take the tags of a `style` away.
 _SELECT = "select"
 _NOTED = _RAW | {_SELECT}
+# The elements of HTML without an end tag.
+_VOID = frozenset(
+    (
+        *(
+            "area base basefont bgsound br col embed frame hr img input keygen link meta param".split()
+        ),
+        *("source track wbr".split()),
+    )
+)
 _STYLE = "style"
 # The tokens in which a backslash escapes what else is markup.
 _ESCAPABLE = frozenset("comment string bad-string url bad-url".split())
@@ -78,12 +78,14 @@ _HEAD = 1
 
 class Content(NamedTuple):
     """A `style` element: its index, where it is, and where its content is. Of a `link` to a sheet
-    also its `href`."""
+    also its `href`; an instruction that names one has that, and as its index -1, or after the root how many
+    elements there are."""
 
     element: int
     span: Span
     inner: Span
     href: Optional[str] = None
+    link: Optional[SheetLink] = None
 
 
 _CONTROL = pattern(f"[{_CONTROLS}]")
@@ -154,7 +156,7 @@ def _marked(found: Match[str]) -> Tuple[int, int, str]:
 def _content(text: str) -> str:
     """Returns the sheet that the text of a `style` element is where references are read."""
     return "".join(
-        part if index % 2 else decode(part) for index, part in enumerate(_SECTION.split(text))
+        part if index % 2 else unescape(part) for index, part in enumerate(_SECTION.split(text))
     )
 
 
@@ -170,34 +172,30 @@ class _Other:
     page."""
 
     def __init__(self, text: str, has_scripts: bool) -> None:
-        self._text = text
-        self._nodes: Dict[Span, Node] = {}
-        self._texts: List[Span] = []
-        waiting = [Builder(text, has_scripts=has_scripts).build()]
-        while waiting:
-            node = waiting.pop()
-            if node.tag is not None:
-                self._nodes.setdefault(node.tag, node)
-                if has_scripts and node.name == "noscript" and node.space == HTML:
-                    self._texts.append((node.tag[1], node.end[0]))
-            waiting.extend(each for each in node.children if isinstance(each, Node))
-        self._texts.sort()
+        self._length = len(text)
+        self._elements: Dict[Span, Tuple[str, int, Span]] = {}
+        page = HtmlPage(text, has_scripts=has_scripts, leaves_templates=False)
+        of_elements = zip(page.names(), page.spaces(), page.ends())
+        for tag, element in zip(page.tags(), of_elements):
+            self._elements.setdefault(tag, element)
+        noscripts = (
+            (tag[1], end[0])
+            for tag, (name, space, end) in self._elements.items()
+            if has_scripts and name == "noscript" and space == HTML and tag[0] >= 0
+        )
+        self._texts: List[Span] = sorted(noscripts)
 
     def is_text(self, tag: Span, end: int) -> bool:
         """Whether a tag, and what is up to an end, are in the text of a `noscript`."""
-        at = bisect.bisect_right(self._texts, (tag[0], len(self._text)))
+        at = bisect.bisect_right(self._texts, (tag[0], self._length))
         return at > 0 and max(tag[1], end) <= self._texts[at - 1][1]
 
     def is_alike(self, tag: Span, name: str, space: int, end: Span) -> bool:
         """Whether it reads the tag of an element alike, and where a `style` ends."""
-        node = self._nodes.get(tag)
-        if node is None or name != "style":
-            return node is not None and (space == _XML or (node.name, node.space) == (name, space))
-        return (node.name, node.space, node.end) == (
-            name,
-            SVG if space == _XML else space,
-            end,
-        )
+        found = self._elements.get(tag)
+        if found is None or name != "style":
+            return found is not None and (space == _XML or found[:2] == (name, space))
+        return found == (name, SVG if space == _XML else space, end)
 
 
 # A mark of the order of bytes.
@@ -215,22 +213,19 @@ def _front_of(text: str) -> str:
     """Returns what a part of a page is read after: it is HTML of the standard, and may be of a
     table."""
     try:
-        waiting = [Builder("<template>" + text).build()]
-    except TooDeep:
+        page = HtmlPage("<template>" + text, leaves_templates=False)
+    except LimitError:
         # Reading what is after it says so.
-        waiting = []
-    while waiting:
-        node = waiting.pop()
-        inner = [each for each in node.children if isinstance(each, Node)]
-        if node.name == "template":
-            names = (each.name for each in inner if each.name not in _HEAD_PARTS)
-            return "<!DOCTYPE html>" + _FRONTS.get(next(names, ""), "")
-        waiting += reversed(inner)
-    return "<!DOCTYPE html>"
+        return "<!DOCTYPE html>"
+    names, parents = page.names(), page.parents()
+    template = names.index("template")
+    inner = (name for name, parent in zip(names, parents) if parent == template)
+    first = next((name for name in inner if name not in _HEAD_PARTS), "")
+    return "<!DOCTYPE html>" + _FRONTS.get(first, "")
 
 
-class Page:
-    """A document in HTML or XML."""
+class EditedPage:
+    """A document in HTML or XML, which is edited in place."""
 
     def __init__(
         self,
@@ -264,8 +259,6 @@ class Page:
         self._spaces = bytearray()
         self._raw: List[FrozenSet[str]] = []
         self.elements = Elements()
-        # The sheets of `style` elements of SVG.
-        self._drawn: Dict[int, str] = {}
         # What is written in place of what: from where, up to where, and the text.
         self._edits: List[Tuple[int, int, str]] = []
         self._declared: Dict[int, Tuple[str, ...]] = {}
@@ -282,33 +275,25 @@ class Page:
         self._having_elements = frozenset(self.elements.parents)
 
     def _read_html(self) -> None:
-        builder = Builder(self.text)
-        try:
-            builder.read()
-            other = _Other(self.text, True) if _NOSCRIPT.search(self.text) else None
-        except TooDeep as error:
-            raise TreeError(str(error), None, None) from None
-        self.is_doubtful = builder.is_doubtful
-        nodes = self.elements.take_nodes(builder)
-        self._head_end = len(self.text) if builder.head_end is None else builder.head_end
-        self._head_end = max(self._head_end, self._front[1])
-        self._spaces = bytearray(node.space for node in nodes)
-        self._inner_ends.extend(node.inner_end for node in nodes)
-        self._take_tags(nodes)
-        self._note_raw(_NO_INDICES if other is None else self._compared(nodes, other))
-        for index in self.elements.drawn if _STYLE in self.elements.names else ():
-            if self.elements.names[index] == _STYLE:
-                self._drawn[index] = self._drawn_sheet(index)
+        page = HtmlPage(self.text)
+        other = _Other(self.text, True) if _NOSCRIPT.search(self.text) else None
+        self.is_doubtful = page.is_doubtful
+        self.elements = Elements(page)
+        self._head_end = max(page.head_end, self._front[1])
+        self._spaces = page.spaces()
+        ends = page.ends()
+        self._inner_ends.extend(start for start, _ in ends)
+        self._take_tags(page.tags())
+        self._note_raw(_NO_INDICES if other is None else self._compared(ends, other))
 
-    def _take_tags(self, nodes: List[Node]) -> None:
+    def _take_tags(self, tags: List[Span]) -> None:
         """Takes the start tags: each is of the first element that has it."""
         first = self._front[1]
         seen: Set[int] = set()
-        for node in nodes:
-            start = node.start
-            is_own = start >= first and start not in seen
-            seen.add(start)
-            self.tags.append((start, node.inner) if is_own else None)
+        for tag in tags:
+            is_own = tag[0] >= first and tag[0] not in seen
+            seen.add(tag[0])
+            self.tags.append(tag if is_own else None)
 
     def _note_raw(self, texts: AbstractSet[int]) -> None:
         """Notes which elements of raw text each element is or is in, of which `texts` are in the text
@@ -320,37 +305,26 @@ class Page:
                 found |= {name}
             raw.append(found | {"noscript"} if index in texts else found)
 
-    def _drawn_sheet(self, index: int) -> str:
-        """Returns the sheet of a `style` element of SVG."""
-        found = self.elements.texts.within(index, self.elements.end_of(index))
-        return "".join(self._foreign_text(*text) for owner, text in found if owner == index)
-
-    def _compared(self, nodes: List[Node], other: _Other) -> Set[int]:
+    def _compared(self, ends: List[Span], other: _Other) -> Set[int]:
         """Leaves out the tags that another reader reads otherwise. Returns the elements that are in
         the text of a `noscript` for it."""
         texts: Set[int] = set()
-        for index, node in enumerate(nodes):
-            tag = self.tags[index]
+        names, spaces = self.elements.names, self._spaces
+        for index, tag in enumerate(self.tags):
             if tag is None:
                 continue
-            if other.is_text(tag, node.outer_end if node.name == _STYLE else tag[1]):
+            if other.is_text(tag, ends[index][1] if names[index] == _STYLE else tag[1]):
                 texts.add(index)
-            elif not other.is_alike(tag, node.name, node.space, node.end):
+            elif not other.is_alike(tag, names[index], spaces[index], ends[index]):
                 self.tags[index] = None
         return texts
-
-    def _foreign_text(self, start: int, end: int) -> str:
-        text = self.text[start:end]
-        return text if self.text.endswith(_CDATA, 0, start) else decode(text)
 
     def _read_xml(self) -> None:
         try:
             found = read_xml(self.text)
-            other = None if _DECLARED.match(self.text) else _Other(self.text, False)
         except XmlError as error:
             raise TreeError(error.reason, error.row, error.column) from None
-        except TooDeep as error:
-            raise TreeError(str(error), None, None) from None
+        other = None if _DECLARED.match(self.text) else _Other(self.text, False)
         self.elements.take_tags(found, self.text)
         for each in found.tags:
             tag, end = (each.start, each.inner), (each.inner_end, each.end)
@@ -388,16 +362,23 @@ class Page:
                 index,
                 tag,
                 tag,
-                self.elements.attributes[index].get("href", "").strip(BLANKS),
+                self.elements.plain[index].get("href", "").strip(BLANKS),
             )
             for index, (name, tag) in enumerate(zip(self.elements.names, self.tags))
             if name == "link" and tag is not None and self._is_sheet_link(index)
         ]
         found = (each for each in (*self.styles, *links) if _SELECT not in self._raw[each.element])
-        return sorted(found, key=lambda each: each.element)
+        every = [*found, *self._instructions(False), *self._instructions(True)]
+        return sorted(every, key=lambda each: each.element)
+
+    def _instructions(self, is_last: bool) -> Iterator[Content]:
+        """Yields the instructions before the root, or after it, whose sheets are in use."""
+        index = len(self.elements) if is_last else -1
+        for each in links_in_use(self.elements, is_last):
+            yield Content(index, each.span, each.span, each.href, each)
 
     def _is_sheet_link(self, index: int) -> bool:
-        attributes = self.elements.attributes[index]
+        attributes = self.elements.plain[index]
         is_link = self._spaces[index] in (HTML, _XML) and is_sheet_link(attributes)
         return is_link and (not is_alternate(attributes) or index in self._in_use)
 
@@ -408,11 +389,10 @@ class Page:
 
     def sheet_of(self, content: Content) -> str:
         """Returns the sheet of a `style` element."""
-        css = self._drawn.get(content.element)
-        if css is None:
-            css = self.text[content.inner[0] : content.inner[1]]
-            css = _content(css) if self.is_xml else css
-        return css
+        if self._spaces[content.element] == SVG:
+            return self.elements.own_text_of(content.element)
+        css = self.text[content.inner[0] : content.inner[1]]
+        return _content(css) if self.is_xml else css
 
     def set_sheet(self, content: Content, css: str) -> None:
         """Replaces the sheet of a `style` element; without one the element goes, if it is in the
@@ -426,6 +406,11 @@ class Page:
             self._edit(content.span if self._may_go(content) else content.inner, "")
 
     def _replace_link(self, content: Content, css: str) -> None:
+        if content.link is not None:
+            self._edit(content.span, "")
+            if css:
+                self.add_sheet(css)
+            return
         prefix = self._prefix(content.span[0]) if self.is_xml else ""
         is_needed = css or not self._may_go(content)
         text = self._style_element(css, content.element, prefix) if is_needed else ""
@@ -490,7 +475,7 @@ class Page:
                 break
             if parent != _HEAD or tag is None:
                 continue
-            is_closed = names[index] in VOID or self._has_end(index)
+            is_closed = names[index] in _VOID or self._has_end(index)
             if index in sheets or names[index] in ("noscript", "template") or not is_closed:
                 return min(tag[0], self._head_end)
         return self._head_end
@@ -498,7 +483,7 @@ class Page:
     def _place_in_xml(self) -> Tuple[int, str]:
         """Returns where a new `style` element goes in XML, and its prefix."""
         for content in self.sources:
-            if self._is_in_head(content.element):
+            if content.link is None and self._is_in_head(content.element):
                 return content.span[0], self._prefix(content.span[0])
         is_drawing = self.elements.names[0] == "svg"
         for index, name in enumerate(() if is_drawing else self.elements.names):
@@ -518,7 +503,11 @@ class Page:
     def is_plain(self, content: Content) -> bool:
         """Whether a `style` element is a style sheet for all media that no title names, and has no
         elements."""
-        attributes = self.elements.attributes[content.element]
+        if content.link is not None:
+            # One after the root comes after all `style` elements.
+            is_alone = not content.link.is_last and not content.link.title
+            return is_alone and self._media(content) in ("", "all")
+        attributes = self.elements.plain[content.element]
         if "title" in attributes or "disabled" in attributes:
             return False
         if content.element in self._having_elements:
@@ -529,11 +518,13 @@ class Page:
         """Whether an element is a style sheet, for some media at least."""
         if content.href is not None:
             return True
-        kind = self.elements.attributes[content.element].get("type", "")
+        kind = self.elements.plain[content.element].get("type", "")
         return lower(kind) in ("", "text/css")
 
     def _media(self, content: Content) -> str:
-        return lower(self.elements.attributes[content.element].get("media", "").strip(BLANKS))
+        attributes = self.elements.plain[content.element] if content.link is None else {}
+        media = content.link.media if content.link is not None else attributes.get("media", "")
+        return lower(media.strip(BLANKS))
 
     # ---- attributes
 
@@ -583,7 +574,7 @@ class Page:
         # Many elements have the same tag, and get the same: elements of a kind have the same tuple.
         added: Dict[int, str] = {}
         made: Dict[Tuple[object, ...], str] = {}
-        page, attributes, tags = self.text, self.elements.attributes, self.tags
+        page, attributes, tags = self.text, self.elements.plain, self.tags
         for index in sorted({*self._declared, *self._changes}):
             tag = tags[index]
             if tag is None:
@@ -608,7 +599,7 @@ class Page:
     ) -> str:
         """Returns the text of a tag that is written anew, as it was made of an equal one before."""
         # That of a second tag of the element, if its own tag has none.
-        own = self.elements.attributes[index].get("style", "")
+        own = self.elements.plain[index].get("style", "")
         changes = self._changes.get(index, {})
         has_own = index in self._with_own
         key = (text, None if has_own else own, id(declared), *changes.items())

@@ -39,6 +39,14 @@ def shorthands(name: str) -> Tuple[str, ...]:
     return tuple(found.decode("utf-8").split())
 
 
+def names_setting(name: str) -> Tuple[str, ...]:
+    """Returns the names of properties that set a longhand: its own, those of its shorthands, and in text that
+    is horizontal, from left to right, the logical and the physical one with theirs."""
+    other = library.call("simplecss_counterpart", library.encode(lower(name)), room=64)
+    pair = (name, *other.output.decode("utf-8").split())
+    return tuple(dict.fromkeys(each for one in pair for each in (one, *shorthands(one))))
+
+
 @functools.lru_cache(maxsize=4096)
 def is_inherited(name: str) -> bool:
     """Whether a property is inherited: each custom property is, and a shorthand if all its longhands
@@ -49,7 +57,7 @@ def is_inherited(name: str) -> bool:
 
 
 @functools.lru_cache(maxsize=4096)
-def is_valid_value(value: str) -> bool:
+def has_valid_references(value: str) -> bool:
     """Whether each reference `var()` of a value is one: it has the name of a custom property, and
     nothing else but a fallback. A browser drops a declaration with another."""
     answer = library.call("simplecss_valid_value", library.encode(value), room=8)

@@ -582,6 +582,13 @@ class Contents:
         inside = Contents(source, (brace, end)).of_rule(brace)
         return InnerRule(condition, item.span, (start, brace), inside)
 
+    def kept(self) -> Iterator[Span]:
+        """Yields where each declaration, at-rule and skipped part is, which begins no block that is read."""
+        for row, kind in enumerate(self._kinds):
+            if kind != _END and kind not in _BEGUN:
+                start, length = self._row(row)[1:3]
+                yield start, start + length
+
     def rules(self) -> Iterator[Optional[BegunRule]]:
         """Yields each rule where its block begins, also one in no style rule, and `None` where the
         innermost block ends."""
@@ -593,6 +600,20 @@ class Contents:
                 last = self._ends.get(row)
                 end = self._end if last is None else self._row(last)[1]
                 yield BegunRule(condition, head, (begin, end))
+
+    def declared(self) -> Dict[int, Tuple[Declaration, ...]]:
+        """Returns the declarations of each block that has some, by the offset at which its contents begin."""
+        found: Dict[int, List[Declaration]] = {}
+        begun: List[int] = []
+        for row, kind in enumerate(self._kinds):
+            if kind == _END:
+                begun.pop()
+            elif kind in _BEGUN:
+                begun.append(self._head(row)[2])
+            elif kind == _DECLARATION:
+                items = self._reader.items(self._row(row), ())
+                found.setdefault(begun[-1], []).extend(declarations_in(items))
+        return {start: tuple(each) for start, each in found.items()}
 
     def _inside(self, row: int) -> Iterator[Union[BlockItem, InnerRule]]:
         """Yields what is in the block of the rule of a row."""

@@ -13,6 +13,7 @@ from typing import (
     Optional,
     Sequence,
     Tuple,
+    Union,
 )
 
 from . import _library as library
@@ -30,8 +31,9 @@ MOST_READ = 2**30
 _UNDECLARED = "revert"
 _UNSET, _NO_VALUE = "unset", "initial"
 
-# A property's name and its value, as they are written.
+# A property's name and its value, as they are written, and several of these.
 Pair = Tuple[str, str]
+Pairs = Union[Mapping[str, str], Iterable[Pair]]
 # Custom properties by their names without escapes.
 Custom = Mapping[str, Pair]
 # What values come to, if they are valid.
@@ -62,10 +64,10 @@ def computed(
 
 
 def resolve(
-    properties: Iterable[Pair],
-    inherited: Iterable[Pair] = (),
+    properties: Pairs,
+    inherited: Pairs = (),
     *,
-    registered: Iterable[Pair] = (),
+    registered: Pairs = (),
     limit: int = LONGEST_VALUE,
 ) -> Computed:
     """Returns the computed value of each property, as far as names decide it, or `None` if it is
@@ -73,14 +75,26 @@ def resolve(
 
     The properties are names and values, such as `("color", "var(--a)")`. `inherited` are the custom
     properties of the parent, and `registered` of each `@property` rule what is before the block and
-    what is in it. A value with more bytes than `limit` is invalid.
+    what is in it. Each may be pairs or a mapping; anything else raises `TypeError`. A value with more
+    bytes than `limit` is invalid.
 
         >>> simplecss.resolve([("color", "var(--a, red)"), ("--b", "var(--b)")], [("--a", "blue")])
         ['blue', None]
     """
-    own, handed, rules = list(properties), list(inherited), list(registered)
+    own, handed, rules = map(_pairs, (properties, inherited, registered))
     length = sum(map(len, itertools.chain(*own, *handed, *rules)))
     return computed(own, handed, rules, limit, library.most_written(length))
+
+
+def _pairs(given: Pairs) -> List[Pair]:
+    """Returns pairs of texts, or those of a mapping."""
+    pairs = list(given.items() if isinstance(given, Mapping) else given)
+    for each in pairs:
+        if not isinstance(each, (tuple, list)) or len(each) != 2:
+            raise TypeError("pairs of a name and a value are expected")
+        library.expect_text(each[0])
+        library.expect_text(each[1])
+    return pairs
 
 
 def _values_in(output: bytes, count: int) -> Computed:

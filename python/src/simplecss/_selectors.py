@@ -6,7 +6,6 @@ import enum
 import functools
 import itertools
 from typing import (
-    TYPE_CHECKING,
     Any,
     Callable,
     Dict,
@@ -18,16 +17,16 @@ from typing import (
     Sequence,
     Set,
     Tuple,
+    Union,
 )
 
 from . import _library as library
 from ._deprecated import warn_of_old
-from ._found_names import Name, find_names, names_in, pseudo_names
+from ._output import marked
+from ._found_names import find_names, names_in, pseudo_names
+from ._kept import KeptList
 from ._tokens import decoded
 from ._words import lower
-
-if TYPE_CHECKING:
-    from ._tree import Element
 
 # The names of the grammars: that of browsers, and that of the Rust crate.
 MODERN = "modern"
@@ -56,17 +55,36 @@ _ON_ELEMENTS = frozenset(("class", "id"))
 class SelectorError(ValueError):
     """A text is not a selector.
 
-    `reason` says why; `row` and `column` say where, and begin at 1. Columns count characters.
+    `reason` says why; `row` and `column` say where, and begin at 1. Columns count characters. `str` has
+    the line of `text` with a caret below the place, if the text is known.
     """
 
-    def __init__(self, reason: str, row: int, column: int) -> None:
-        super().__init__(reason, row, column)
+    def __init__(self, reason: str, row: int, column: int, text: str = "") -> None:
+        super().__init__(reason, row, column, text)
         self.reason = reason
         self.row = row
         self.column = column
+        self.text = text
+
+    @property
+    def message(self) -> str:
+        """The place and the reason, in one line."""
+        return f"{self.row}:{self.column}: {self.reason}"
 
     def __str__(self) -> str:
-        return f"{self.row}:{self.column}: {self.reason}"
+        return self.message + marked(self.text, self.row, self.column)
+
+
+class ReadText:
+    """A text of selectors that was read by a grammar: it is taken where a text is."""
+
+    def __init__(self, source: str, grammar: str) -> None:
+        self.source = source
+        self.grammar = grammar
+
+
+# A list of selectors, or a `Selector`.
+Selectors = Union[str, ReadText]
 
 
 class Reading(enum.IntEnum):
@@ -109,8 +127,6 @@ _CASELESS: Dict[Reading, FrozenSet[str]] = {
 }
 
 
-# How many numbers the library writes of a selector of a list.
-_OF_LISTED = 10
 # The grammars, as the library numbers them where no document is read.
 NUMBERS = {MODERN: int(Reading.AS_WRITTEN), PORT: 3}
 
@@ -141,17 +157,15 @@ def listed(text: str, grammar: str = MODERN) -> List[Listed]:
     """Returns the selectors of a list. A text that is no list raises `SelectorError`."""
     grammar = grammar_of(grammar)
     data = library.encode(text)
-    words = (data, NUMBERS[grammar])
-    room = _OF_LISTED * (2 + data.count(b","))
-    answer = library.call("simplecss_list", *words, room=room, width=library.WIDTH)
-    if answer.status == library.REFUSED:
-        raise selector_error(text, grammar)
-    numbers = library.numbers_in(library.output_of("simplecss_list", answer))
-    printed = library.call("simplecss_printed", *words, room=64 + 4 * len(data))
-    texts = library.output_of("simplecss_printed", printed)
+    try:
+        kept = KeptList(data, NUMBERS[grammar])
+    except ValueError:
+        raise selector_error(text, grammar) from None
+    with kept:
+        rows, texts = kept.rows(), kept.text()
     found = []
     at = 0
-    for row in library.rows_of(numbers, _OF_LISTED):
+    for row in rows:
         start, length, _, ids, classes, types, element, name, _, printed_length = row
         text = texts[at : at + printed_length].decode("utf-8")
         at += printed_length
@@ -221,11 +235,28 @@ def matched(
     spaces between them. The selectors are of the grammar of this number. More numbers than `limit`
     raise `LimitError`."""
     texts = selectors if isinstance(selectors, SelectorTexts) else SelectorTexts(selectors)
-    name = "simplecss_match_selectors"
     words = [*texts.encoded, number, tree]
+    return _lines_of("simplecss_match_selectors", words, tree, len(selectors), limit)
+
+
+def matched_of_port(
+    tree: library.TreeArrays, texts: Sequence[bytes], most: int, count: int, limit: int
+) -> List[bytes]:
+    """Returns for each element the numbers of the rules that match it, of the style sheet of texts by the
+    grammar of the Rust crate, as `matched` does. They are so many rules, with `most` declarations at most.
+    """
+    words = [b"".join(texts), library.ends_of(map(len, texts)), most, tree]
+    return _lines_of("simplecss_port_match", words, tree, count, limit)
+
+
+def _lines_of(
+    name: str, words: Sequence[Any], tree: library.TreeArrays, count: int, limit: int
+) -> List[bytes]:
+    """Returns the numbers, of so many, that a call writes of each element. More than `limit` raise
+    `LimitError`."""
     # A line is the number of an element, a colon, the numbers with a space before each, and its
     # end.
-    numbers = limit * (1 + len(str(len(selectors))))
+    numbers = limit * (1 + len(str(count)))
     most = min(tree.count * (2 + len(str(tree.count))) + numbers, library.NO_LIMIT)
     room = library.Room(limit)
     try:
@@ -258,9 +289,9 @@ def selector_error(
     words = (library.encode(text), NUMBERS[grammar], tree or library.TreeArrays([], []))
     answer = library.call("simplecss_refusal", *words, room=4096, with_fault=True)
     if not answer.output:
-        return SelectorError("refused", 1, 1)
+        return SelectorError("refused", 1, 1, text)
     row, column, reason = answer.output.decode("utf-8").split(" ", 2)
-    return SelectorError(reason, int(row), int(column))
+    return SelectorError(reason, int(row), int(column), text)
 
 
 def states_in(selector: str) -> List[str]:
@@ -268,63 +299,3 @@ def states_in(selector: str) -> List[str]:
     its pseudo-elements, in lower case."""
     names = pseudo_names(selector)
     return [each.name for each in names if each.is_element or each.name not in OF_TREE]
-
-
-class Selector:
-    """A selector. `str` is its text as the library prints it.
-
-    The grammar "modern" is that of browsers: Selectors Level 3, and of Level 4 `:is()`, `:where()`,
-    lists in `:not()` and `[a=b i]`. "simplecss" is that of the Rust crate: CSS 2.1. A text that is
-    not a selector, or a list of several, raises `SelectorError`.
-    """
-
-    def __init__(self, text: str, *, grammar: str = MODERN) -> None:
-        self._grammar = grammar_of(grammar)
-        found = listed(text, self._grammar)
-        if len(found) != 1:
-            raise SelectorError("more than one selector", 1, 1)
-        self._source = text
-        self._listed = found[0]
-
-    @property
-    def specificity(self) -> Specificity:
-        """How many ids, classes and types the selector has.
-
-        Attributes and pseudo-classes count as classes, and pseudo-elements as types.
-        """
-        return self._listed.specificity
-
-    @property
-    def pseudo_element(self) -> Optional[str]:
-        """The name of the pseudo-element at the end, or `None`.
-
-        A selector with one matches no element.
-        """
-        return self._listed.pseudo_element
-
-    @property
-    def names(self) -> Tuple[Name, ...]:
-        """The names in the printed text of the selector.
-
-        They are those of types, classes, ids, attributes and pseudo-classes.
-        """
-        return names_in(str(self))
-
-    def matches(self, element: "Element") -> bool:
-        """Whether the selector matches an element of a tree."""
-        return element.matches(self._source, grammar=self._grammar)
-
-    def __str__(self) -> str:
-        return self._listed.text
-
-    def __repr__(self) -> str:
-        return f"Selector({self._listed.text!r})"
-
-    def __eq__(self, other: object) -> bool:
-        return isinstance(other, Selector) and self._key() == other._key()
-
-    def __hash__(self) -> int:
-        return hash(self._key())
-
-    def _key(self) -> Tuple[str, str]:
-        return self._grammar, self._listed.text

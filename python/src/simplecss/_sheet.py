@@ -27,11 +27,12 @@ from ._declaration import Declaration, cascaded
 from ._deprecated import warn_of_old
 from ._device import LAYER, Device, Media, device_of, holds
 from ._elements import Elements
+from ._given import expect_css
 from ._lines import Lines
-from ._linked import Load, Name, Piece, Shelf, Unread, pieces_of, sheets_of
-from ._making import sheet_text
-from ._nested import Block, Places, blocks_of, every_block
-from ._properties import shorthands as shorthands_of
+from ._linked import Load, Name, Piece, Shelf, Unread, imports_in, pieces_of, sheets_of
+from ._making import sheet_text, with_end
+from ._nested import Block, Places, blocks_of, every_block, unsupported_in
+from ._properties import is_custom, names_setting
 from ._reading import (
     GROUPS,
     NESTED,
@@ -44,6 +45,7 @@ from ._reading import (
     ReadAtRule,
     RuleSet,
     Source,
+    Span,
     Statement,
     before_element,
     ended,
@@ -72,9 +74,15 @@ from ._tree import Element, Tree, elements_of
 from ._unused import Unused, Usage
 from ._user_agent import user_agent_sheet
 from ._winners import AUTHOR, ORIGINS, PlacedRule, ReadSheet, Winning
-from ._words import BLANKS
+from ._words import BLANKS, lower
 
 T = TypeVar("T")
+# A selector and its comma have two bytes at least, a declaration and its semicolon four. So a text of n bytes,
+# whose last semicolon may be missing, has at most (n + 1) / 4 selectors and (n + 1) / 8 declarations where the
+# product of both is largest: the square of n + 1 is at least so many times that product.
+_OF_PAIR = 32
+# The at-rules that an `@import` may be after.
+_FIRST = frozenset(("charset", "import", LAYER))
 # How many times an answer's limit the declarations that are compared may be, as elements times those of
 # all rules, before it is told how many they are.
 _COMPARED = 10
@@ -101,11 +109,15 @@ class Rule(NamedTuple):
 
 
 class Unsupported(NamedTuple):
-    """A rule whose selector is valid and unsupported. It matches no element."""
+    """A rule whose selector is valid and unsupported. It matches no element.
+
+    A nested rule has `parents`, as a `Rule` has.
+    """
 
     selector: str
     declarations: Tuple[Declaration, ...]
     conditions: Tuple[Condition, ...]
+    parents: Tuple[str, ...] = ()
 
 
 class Skipped(NamedTuple):
@@ -124,12 +136,69 @@ class Skipped(NamedTuple):
     end: int
 
 
+# What a sheet past its limit says.
+_TOO_MANY = "the rules would hold more declarations than the limit"
 # The number of a text, and an offset in it.
 Place = Tuple[int, int]
 
 
+class ByName(List[Declaration]):
+    """Lists the declarations that win on an element, and is a mapping from the names of their properties to
+    them: `dict(winners)` is one. A name compares in any case, but that of a custom property.
+    """
+
+    @overload  # type: ignore[override]
+    def __getitem__(self, key: Union[int, str]) -> Declaration:
+        ...
+
+    @overload
+    def __getitem__(self, key: slice) -> List[Declaration]:
+        ...
+
+    def __getitem__(self, key: Union[int, slice, str]) -> Union[Declaration, List[Declaration]]:
+        """The declaration of a name, or at an index. A name of none raises `KeyError`."""
+        if not isinstance(key, str):
+            return super().__getitem__(key)
+        found = self.get(key)
+        if found is None:
+            raise KeyError(key)
+        return found
+
+    def __contains__(self, key: object) -> bool:
+        """Whether one has a name, or is this declaration."""
+        return self.get(key) is not None if isinstance(key, str) else super().__contains__(key)
+
+    def get(self, name: str, default: Optional[Declaration] = None) -> Optional[Declaration]:
+        """Returns the declaration of a name, or the default. Of two, it is the stronger one."""
+        wanted = _compared(name)
+        return next((each for each in reversed(self) if _compared(each.name) == wanted), default)
+
+    def keys(self) -> List[str]:
+        """The names, in order."""
+        return [each.name for each in self]
+
+    def values(self) -> List[Declaration]:
+        """The declarations, in order."""
+        return list(self)
+
+    def items(self) -> List[Tuple[str, Declaration]]:
+        """The names and declarations, in order."""
+        return [(each.name, each) for each in self]
+
+
+def _compared(name: str) -> str:
+    """Returns a name as names of properties compare."""
+    return name if is_custom(name) else lower(name)
+
+
 class ByElement(List[T]):
-    """A list with a value for each element of a tree, by the element or its index."""
+    """A list with a value for each element of a tree, and a mapping from the elements to these: `dict(found)`
+    is one. A key is an element or its index; an element of another tree raises `KeyError`.
+    """
+
+    def __init__(self, tree: Tree, values: Iterable[T]) -> None:
+        super().__init__(values)
+        self._tree = tree
 
     @overload  # type: ignore[override]
     def __getitem__(self, key: Union[int, Element]) -> T:
@@ -140,7 +209,33 @@ class ByElement(List[T]):
         ...
 
     def __getitem__(self, key: Union[int, slice, Element]) -> Union[T, List[T]]:
-        return super().__getitem__(key.index if isinstance(key, Element) else key)
+        if not isinstance(key, Element):
+            return super().__getitem__(key)
+        if key.tree is not self._tree:
+            raise KeyError("the element belongs to another tree")
+        return super().__getitem__(key.index)
+
+    def __contains__(self, key: object) -> bool:
+        """Whether an element is of the tree, or this is one of the values."""
+        if isinstance(key, Element):
+            return key.tree is self._tree
+        return super().__contains__(key)
+
+    def get(self, key: Element, default: Optional[T] = None) -> Optional[T]:
+        """Returns the value of an element, or the default for one of another tree."""
+        return self[key] if key in self else default
+
+    def keys(self) -> Sequence[Element]:
+        """The elements, in order."""
+        return self._tree.elements
+
+    def values(self) -> List[T]:
+        """The values, in the order of the elements."""
+        return list(self)
+
+    def items(self) -> List[Tuple[Element, T]]:
+        """The elements and values, in order."""
+        return list(zip(self._tree.elements, self))
 
 
 class _Contents(NamedTuple):
@@ -157,7 +252,8 @@ class StyleSheet:
     """The style sheet of texts, read one after another.
 
     Its rules are in the order of their specificity, and rules of equal specificity in the order in
-    which they appear. `str` is the printed sheet.
+    which they appear. `str` is the printed sheet. It has the `@import`s of further texts before all rules,
+    since they count nowhere else, and no `@import` of a sheet that `of_page` has read.
 
     The grammar "modern" reads as browsers do (CSS Syntax 3), and "simplecss" as the Rust crate
     does.
@@ -184,14 +280,31 @@ class StyleSheet:
         limit: Optional[int] = library.USUAL_LIMIT,
         answer_limit: Optional[int] = library.USUAL_ANSWER_LIMIT,
     ) -> None:
+        for text in texts:
+            library.expect_text(text)
+            expect_css(text)
+        self._take(texts, origins, around, grammar_of(grammar), limit, answer_limit)
+        self._check_size()
+
+    def _take(
+        self,
+        texts: Sequence[str],
+        origins: Sequence[str],
+        around: Sequence[Sequence[Condition]],
+        grammar: str,
+        limit: Optional[int],
+        answer_limit: Optional[int],
+    ) -> None:
+        """Takes texts, which are not read yet."""
         self._texts = tuple(library.encode(text) for text in texts)
         # The group rules that all of each text is in, and the pieces of the texts in the order of the cascade.
         self._outer = _outer_of(around, len(texts), grammar)
         self._pieces = tuple(Piece(number, 0, len(text)) for number, text in enumerate(self._texts))
-        # What the page names and was not read.
+        # What the page names and was not read, and of each text of a page where its imports are of this.
         self.unread: Tuple[Unread, ...] = ()
-        self._grammar = grammar_of(grammar)
-        self._origins = _origins_of(origins, len(texts), self._grammar)
+        self._left: Optional[Tuple[Tuple[Span, ...], ...]] = None
+        self._grammar = grammar
+        self._origins = _origins_of(origins, len(texts), grammar)
         self._limit = library.limit_of(limit)
         self._answer_limit = library.limit_of(answer_limit)
         self._read: Optional[List[Tuple[Source, List[Statement]]]] = None
@@ -215,10 +328,10 @@ class StyleSheet:
         Raises `ValueError` if they do not read as what they are: for example, if a value ends its
         declaration.
         """
-        given = list(rules)
+        given = [with_end(each) for each in rules]
         sheet = cls(sheet_text(given), limit=limit, answer_limit=answer_limit)
         if _said(given) != _said([*sheet.rules, *sheet.unsupported, *sheet.at_rules]):
-            raise ValueError("a rule does not read as what it is")
+            raise ValueError("the text of a rule reads as another rule")
         return sheet
 
     @classmethod
@@ -250,20 +363,26 @@ class StyleSheet:
         found = list(sheets_of(elements_of(tree), shelf))
         if grammar_of(grammar) == PORT:
             found = [each._replace(imports=0) for each in found if not each.around]
-        texts = (each.source.text for each in found)
-        sheet = cls(*texts, grammar=grammar, limit=limit, answer_limit=answer_limit)
+        sheet = cls.__new__(cls)
+        texts = [each.source.text for each in found]
+        sheet._take(texts, (), (), grammar_of(grammar), limit, answer_limit)
         sheet._read = [(each.source, each.statements) for each in found]
         outer = tuple(each.around for each in found)
-        return sheet._of_page(outer, pieces_of(found), tuple(shelf.unread))
+        left = tuple(each.left for each in found)
+        sheet._of_page(outer, pieces_of(found), tuple(shelf.unread), left)
+        sheet._check_size()
+        return sheet
 
     def _of_page(
         self,
         outer: Tuple[Tuple[Outer, ...], ...],
         pieces: Tuple[Piece, ...],
         unread: Tuple[Unread, ...],
+        left: Optional[Tuple[Tuple[Span, ...], ...]],
     ) -> "StyleSheet":
         """Returns the sheet, as that of a page: with group rules for each text, the pieces of the texts,
         and what was not read."""
+        self._left = left
         self._outer = outer
         self._pieces = pieces
         self.unread = unread
@@ -277,7 +396,7 @@ class StyleSheet:
     def __reduce__(self) -> Tuple[Any, ...]:
         texts = tuple(text.decode("utf-8") for text in self._texts)
         limits = (self._limit, self._answer_limit)
-        page = (self._outer, self._pieces, self.unread)
+        page = (self._outer, self._pieces, self.unread, self._left)
         return (_sheet_of, (texts, self._origins, page, self._grammar, *limits))
 
     def _call(self, name: str, room: int) -> bytes:
@@ -324,7 +443,10 @@ class StyleSheet:
         found = list(self._placed_rules()) if any(self._placed_blocks()) else []
         nested = [(each.place, each.rule) for each in found]
         supported = {(each.block, each.text) for each in found}.union(self._silent())
-        plain, unsupported = _rules_of(self._sets({each.block for each in found}), supported)
+        plain, outermost = _rules_of(self._sets({each.block for each in found}), supported)
+        unsupported = sorted(
+            itertools.chain(outermost, self._unsupported_in(found)), key=lambda each: each[0]
+        )
         # Rules of equal specificity stay as they stand.
         rules = sorted(plain + nested, key=lambda each: each[0])
         rules.sort(key=lambda each: each[1].specificity)
@@ -340,7 +462,7 @@ class StyleSheet:
         )
         return _Contents(
             tuple(rule for _, rule in rules),
-            tuple(unsupported),
+            tuple(rule for _, rule in unsupported),
             tuple(at_rules),
             indices,
         )
@@ -358,11 +480,31 @@ class StyleSheet:
 
     def _placed_blocks(self) -> List[List[Block]]:
         """Returns of each text the blocks of the style rules that the library places: of those with rules
-        in them, or of all if the text declares namespaces, with which it reads their selectors."""
+        in them, or of all if the text declares namespaces, with which it reads their selectors.
+        """
         return [
-            every_block(found, blocks) if _declares_namespaces(found) else blocks
-            for (_, found), blocks in zip(self._statements(), self._blocks())
+            every_block(source, found, blocks) if _declares_namespaces(found) else blocks
+            for (source, found), blocks in zip(self._statements(), self._blocks())
         ]
+
+    def _unsupported_in(self, found: Iterable["_Placed"]) -> Iterator[Tuple[Place, Unsupported]]:
+        """Yields the unsupported rules in style rules, and where each is. These are the supported ones."""
+        placed: Dict[int, Dict[int, Set[str]]] = {}
+        for each in found:
+            number, start = each.block
+            placed.setdefault(number, {}).setdefault(start, set()).add(each.text)
+        left = self._limit
+        for number, (source, statements) in enumerate(self._statements()):
+            own = {each.head[1] for each in statements if isinstance(each, RuleSet)}
+            inner = (each for each in self._blocks()[number] if each.span[0] not in own)
+            supported = placed.get(number, {})
+            for block, selector, declarations in unsupported_in(source, inner, supported):
+                left -= len(declarations)
+                if left < 0:
+                    raise library.LimitError(_TOO_MANY)
+                conditions = self._conditions[number] + block.conditions
+                rule = Unsupported(selector, declarations, conditions, block.parents)
+                yield (number, block.span[0]), rule
 
     def _silent(self) -> Iterator[Tuple[Place, str]]:
         """Yields the selectors of the rules without declarations of texts that declare namespaces, and where
@@ -387,9 +529,20 @@ class StyleSheet:
                     yield _Placed(place, (number, block.span[0]), text, rule)
 
     def _read_sheets(self) -> Iterator[ReadSheet]:
-        """Yields what each text has, with the group rules that all of it is in."""
-        for (source, found), blocks, outer in zip(self._statements(), self._blocks(), self._outer):
-            yield source, found, blocks, outer
+        """Yields each text, with the group rules that all of it is in."""
+        for (source, _), outer in zip(self._statements(), self._outer):
+            yield source, outer
+
+    def _check_size(self) -> None:
+        """Raises `LimitError` for a sheet whose rules hold more declarations than its limit. Of a short one
+        nothing is read: so many bytes have no rule sets of more selectors times declarations.
+        """
+        if (1 + sum(map(len, self._texts))) ** 2 <= _OF_PAIR * self._limit:
+            return
+        if self._grammar == MODERN:
+            self._check_limit()
+        if self._grammar == PORT or any(self._placed_blocks()):
+            self._all()
 
     def _check_limit(self) -> None:
         """Raises `LimitError` for a sheet whose rules would hold more declarations than its limit."""
@@ -398,7 +551,7 @@ class StyleSheet:
         # How many items there are is known sooner than how many of them are declarations.
         most = sum(len(each.selectors) * len(each.items) for each in sets)
         if most > self._limit < sum(len(each.selectors) * len(each.declarations) for each in sets):
-            raise library.LimitError("the rules would hold more declarations than the limit")
+            raise library.LimitError(_TOO_MANY)
 
     @property
     def rules(self) -> Tuple[Rule, ...]:
@@ -457,20 +610,38 @@ class StyleSheet:
         self._all()
         return "\n".join(self._lines())
 
+    def _printed(self) -> List["_Part"]:
+        """Returns the pieces of the texts as they are printed. Where there are several texts, the imports of
+        sheets that were not read are in the first piece, since none would count after it; those of a
+        page whose sheets were are in none."""
+        parts: List[_Part] = []
+        late: List[_Part] = []
+        for number, start, end in self._pieces:
+            source, found = self._statements()[number]
+            outer = self._outer[number]
+            part = _Part(outer, source, [each for each in found if start <= each.span[0] < end])
+            if len(self._texts) > 1:
+                spans = {each.span for each in imports_in(source.text)}
+                left = spans if self._left is None else set(self._left[number])
+                part, imports = part.without(spans if parts or outer else spans - left)
+                late += (_Part((), source, [each]) for each in imports if each.span in left)
+            parts.append(part)
+        front, rest = parts[0].parted() if parts and not parts[0].outer else (None, None)
+        if front is None or rest is None:
+            return [*late, *parts]
+        return [front, *late, rest, *parts[1:]] if late else parts
+
     def _lines(self) -> Iterator[str]:
         """Yields the lines of the pieces of the texts, each in its group rules. Those that a piece shares with
         the one before it stay open."""
         opened: Tuple[Outer, ...] = ()
-        for number, start, end in self._pieces:
-            outer = self._outer[number]
+        for outer, source, those in self._printed():
             pairs = itertools.takewhile(lambda pair: pair[0] == pair[1], zip(opened, outer))
             shared = sum(1 for _ in pairs)
             yield from _closed(len(opened), shared)
             for depth, each in enumerate(outer[shared:], shared):
                 yield f"{'  ' * depth}{each.condition} {{"
             opened = outer
-            source, found = self._statements()[number]
-            those = [each for each in found if start <= each.span[0] < end]
             for line in _lines_of(source, those):
                 yield "  " * len(outer) + line
         yield from _closed(len(opened), 0)
@@ -507,7 +678,11 @@ class StyleSheet:
             if device not in self._selectors:
                 self._selectors[device] = _Selectors(self._all(), device)
             found = self._selectors[device]
-        return found, elements.matched(found.texts, self._answer_limit, self._grammar)
+        if self._grammar == PORT:
+            # A selector that is printed may not be read again.
+            words = (self._texts, self._limit, len(self.rules), self._answer_limit)
+            return found, elements.matched_of_port(*words)
+        return found, elements.matched(found.texts, self._answer_limit)
 
     def match(self, tree: Tree, *, media: Media = "screen") -> "ByElement[List[int]]":
         """Returns for each element the indices of the rules that match it, in order.
@@ -517,7 +692,7 @@ class StyleSheet:
         prelude of each `@media`, and with the text of each other group rule up to its block, such as
         `@layer a`. Rules with a pseudo-element match no element.
         """
-        return ByElement(list(each) for each in self._matched(tree, media))
+        return ByElement(tree, (list(each) for each in self._matched(tree, media)))
 
     def _matched(self, tree: Tree, media: Media) -> Iterator[Sequence[int]]:
         """Yields for each element the indices of the rules that match it, in order."""
@@ -556,11 +731,14 @@ class StyleSheet:
         inherit: Inherit = False,
         resolved: bool = False,
         ua: bool = False,
-    ) -> "ByElement[List[Declaration]]":
+    ) -> "ByElement[ByName]":
         """Returns for each element the winning declaration of each name (CSS Cascading 5, section 6).
 
-        They are in the order in which the cascade applies them: in that of their rules, and in a
-        rule as they appear. With `specified`, the declarations of the attribute `style` take part, and
+        They are in the order of the cascade, the strongest last: written into an attribute `style` in this
+        order, they set what the rules do. One with the value `revert` or `revert-layer` is there if nothing
+        that applies to the element is in an earlier origin or layer: it undoes what those before it set. A
+        layer that is rolled back for a part of a shorthand is not looked for by the name of another: `style`
+        with `shorthands` does. With `specified`, the declarations of the attribute `style` take part, and
         those that `presentation` returns of an element: properties with their values, which are
         presentational hints; by default the presentation attributes of SVG. `inherit` names the
         properties that an element without a declaration has from its parent; `True` is those of CSS 2.1
@@ -581,7 +759,7 @@ class StyleSheet:
             found = with_values(tree, found, registered, self._answer_limit)
         if inherit:
             found = inherited(tree, found, inherit, self._answer_limit)
-        return ByElement(found)
+        return ByElement(tree, map(ByName, found))
 
     def _registered(self, media: Media) -> Iterator[Pair]:
         """Yields the prelude and the block of each `@property` that holds."""
@@ -677,7 +855,9 @@ class StyleSheet:
         """Returns for each element the winning declaration of the name, or `None`.
 
         With `shorthands`, it is the declaration that sets the property, which may be that of a shorthand:
-        the winning one of all that have its name or that of a shorthand. A name compares in any case of
+        the winning one of all that have its name or that of a shorthand, and where the property has a logical
+        and a physical name, such as `margin-block-start` and `margin-top`, of both, as in horizontal text from
+        left to right. A name compares in any case of
         its ASCII letters if it is not that of a custom property; by the grammar "simplecss", which has no
         `shorthands`, it compares byte by byte. `media`, `specified`, `presentation`, `inherit` and `ua` are
         those of `styles`.
@@ -690,14 +870,14 @@ class StyleSheet:
         else:
             winning = self._compared_winning(tree, media, ua)
             own = Own(tree, presentation) if specified else NO_OWN
-            names = (name, *shorthands_of(name)) if shorthands else (name,)
+            names = names_setting(name) if shorthands else (name,)
             limit = max(self._answer_limit, library.USUAL_ANSWER_LIMIT)
             every = winning.named(_elements_in(tree), own, names, limit)
             found = [[] if each is None else [each] for each in every]
         if inherit:
             found = inherited(tree, found, inherit, self._answer_limit)
         # What an element has itself is after what it has from its parent.
-        return ByElement(each[-1] if each else None for each in found)
+        return ByElement(tree, (each[-1] if each else None for each in found))
 
 
 def _expect_none(**words: bool) -> None:
@@ -745,6 +925,16 @@ def _elements_in(tree: Tree) -> Elements:
     return elements_of(tree)
 
 
+def sheet_of_texts(
+    texts: Iterable[str], *, origins: Sequence[str] = (), grammar: str = MODERN
+) -> StyleSheet:
+    """Returns the sheet of texts, which may look like names of files."""
+    sheet = StyleSheet.__new__(StyleSheet)
+    limits = library.USUAL_LIMIT, library.USUAL_ANSWER_LIMIT
+    sheet._take(list(texts), origins, (), grammar_of(grammar), *limits)
+    return sheet
+
+
 def usage_of(sheet: StyleSheet) -> Usage:
     """Returns which selectors of a sheet are used, of which none is so far."""
     return sheet._usage()
@@ -763,6 +953,34 @@ class _Placed(NamedTuple):
     block: Place
     text: str
     rule: Rule
+
+
+class _Part(NamedTuple):
+    """A piece of a text as it is printed: the group rules that it is in, the text, and its statements."""
+
+    outer: Tuple[Outer, ...]
+    source: Source
+    statements: List[Statement]
+
+    def without(self, spans: Container[Span]) -> "Tuple[_Part, List[Statement]]":
+        """Returns the piece without the statements at these places, and those of them that are in no group
+        rule of a whole text."""
+        taken = [each for each in self.statements if each.span in spans]
+        kept = [each for each in self.statements if each.span not in spans]
+        return self._replace(statements=kept), [] if self.outer else taken
+
+    def parted(self) -> "Tuple[_Part, _Part]":
+        """Returns what may be before an `@import`, and the rest."""
+        front = list(itertools.takewhile(_may_be_first, self.statements))
+        rest = self.statements[len(front) :]
+        return self._replace(statements=front), self._replace(statements=rest)
+
+
+def _may_be_first(statement: Statement) -> bool:
+    """Whether an `@import` counts after a statement that counts itself."""
+    if not isinstance(statement, ReadAtRule) or statement.levels:
+        return False
+    return statement.rule.name in _FIRST and statement.rule.block is None
 
 
 def _declares_namespaces(statements: Iterable[Statement]) -> bool:
@@ -824,18 +1042,19 @@ def _declaration_of_port(lines: Lines) -> Declaration:
 def _rules_of(
     sets: Iterable[Tuple[Place, RuleSet, bool, Tuple[Condition, ...]]],
     supported: Container[Tuple[Place, str]],
-) -> Tuple[List[Tuple[Place, Rule]], List[Unsupported]]:
+) -> Tuple[List[Tuple[Place, Rule]], List[Tuple[Place, Unsupported]]]:
     """Returns the rules of rule sets, of those that have them, and the unsupported ones of all, but for
-    those of these places with these selectors. Each rule set is with the conditions of its whole text.
-    """
+    those of these places with these selectors, and where each is. Each rule set is with the conditions
+    of its whole text."""
     rules: List[Tuple[Place, Rule]] = []
-    unsupported: List[Unsupported] = []
+    unsupported: List[Tuple[Place, Unsupported]] = []
     for place, found, has_rules, outer in sets:
         declarations, conditions = found.declarations, outer + found.conditions
         for each in found.selectors:
             if each.specificity is None:
                 if (place, each.text) not in supported:
-                    unsupported.append(Unsupported(each.text, declarations, conditions))
+                    other = Unsupported(each.text, declarations, conditions)
+                    unsupported.append((place, other))
                 continue
             if has_rules:
                 element = each.pseudo_element
@@ -947,12 +1166,11 @@ def _closed(depth: int, kept: int) -> Iterator[str]:
 def _sheet_of(
     texts: Tuple[str, ...],
     origins: Tuple[str, ...],
-    page: Tuple[Tuple[Tuple[Outer, ...], ...], Tuple[Piece, ...], Tuple[Unread, ...]],
+    page: Tuple[Any, ...],
     grammar: str,
     limit: int,
     answer_limit: int,
 ) -> StyleSheet:
-    sheet = StyleSheet(
-        *texts, origins=origins, grammar=grammar, limit=limit, answer_limit=answer_limit
-    )
+    sheet = sheet_of_texts(texts, origins=origins, grammar=grammar)
+    sheet._limit, sheet._answer_limit = limit, answer_limit
     return sheet._of_page(*page)

@@ -2,7 +2,7 @@
 
 from __future__ import annotations
 
-from typing import Dict, Iterable, List, NamedTuple, Optional, Tuple
+from typing import Dict, Iterable, List, NamedTuple, Optional, Sequence, Tuple
 
 HTML_SPACE = "http://www.w3.org/1999/xhtml"
 SVG_SPACE = "http://www.w3.org/2000/svg"
@@ -22,6 +22,8 @@ _ADJUSTED: Dict[str, Tuple[str, str]] = {
     "xmlns": (_XMLNS, "xmlns"),
     "xmlns:xlink": (_XMLNS, "xlink"),
 }
+# The namespace and the local name of the attribute of XLink that is a url.
+XLINK_HREF = (_XLINK, "href")
 
 # The namespace of an attribute, or nothing, its local name, and its value.
 SpacedAttribute = Tuple[str, str, str]
@@ -40,6 +42,16 @@ class Attributes(NamedTuple):
         if not found or "lang" in self.plain:
             return self
         return self._replace(plain={**self.plain, "lang": found[0]})
+
+
+def has_link(
+    name: str, space: str, plain: Dict[str, str], others: Sequence[SpacedAttribute]
+) -> bool:
+    """Whether an element with these attributes is a link: of SVG also by the `href` of XLink."""
+    if name not in ("a", "area") or space not in ("", HTML_SPACE, SVG_SPACE):
+        return False
+    is_xlink = any((of, local) == XLINK_HREF for of, local, _ in others)
+    return "href" in plain or is_xlink and space != HTML_SPACE
 
 
 def parted(attributes: Iterable[SpacedAttribute]) -> Optional[Attributes]:

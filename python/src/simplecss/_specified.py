@@ -21,7 +21,7 @@ from ._declaration import Declaration, cascaded
 from ._library import Room, expect_text
 from ._presenting import presented_by
 from ._reading import declarations
-from ._tree import Element, Tree, elements_of
+from ._tree import Element, Tree, elements_of, plain_attributes
 from ._words import BLANKS, lower
 
 # What CSS 2.1 hands down (Appendix F), and what SVG does.
@@ -38,6 +38,8 @@ INHERITED: FrozenSet[str] = frozenset(
     " stroke-dashoffset stroke-linecap stroke-linejoin stroke-miterlimit stroke-opacity"
     " stroke-width text-anchor text-rendering writing-mode glyph-orientation-vertical".split()
 )
+# The values that say what an element has without the declarations of its author.
+_ROLLED_BACK = frozenset(("revert", "revert-layer"))
 # Which properties are handed down: the table above, some, or none.
 Inherit = Union[bool, Iterable[str]]
 
@@ -51,7 +53,7 @@ def presentation_attributes(element: Element) -> Dict[str, str]:
     if not element.is_drawn:
         return {}
     known = presented_by(element.name)
-    pairs = ((name, value.strip(BLANKS)) for name, value in element.attributes.items())
+    pairs = ((name, value.strip(BLANKS)) for name, value in plain_attributes(element).items())
     return {name: value for name, value in pairs if name in known and value}
 
 
@@ -75,7 +77,7 @@ class Own:
         self._texts: List[bytes] = []
         self._known: Dict[bytes, List[Declaration]] = {}
         for element in tree:
-            style = element.attributes.get("style", "")
+            style = plain_attributes(element).get("style", "")
             pairs = presentation(element).items()
             hints = (_presented(name, value) for name, value in pairs)
             presented = "".join(_text_of(each) for each in hints if each is not None)
@@ -110,7 +112,7 @@ def specified_by(
 ) -> List[Declaration]:
     """Returns the declaration of each name that wins among all of these, in order, by CSS 2.1."""
     hints = (_presented(name, value) for name, value in presentation(element).items())
-    style = element.attributes.get("style", "")
+    style = plain_attributes(element).get("style", "")
     presented = [each for each in hints if each is not None]
     return cascaded((*presented, *winners, *(declarations(style) if style else ())))
 
@@ -121,6 +123,12 @@ def _names(inherit: Iterable[str]) -> FrozenSet[str]:
     for name in names:
         expect_text(name)
     return names
+
+
+def _is_of_parent(declaration: Declaration, names: FrozenSet[str]) -> bool:
+    """Whether a declaration has the value of the parent, where these properties are handed down."""
+    value = lower(declaration.value)
+    return value == "inherit" or value in _ROLLED_BACK and declaration.name in names
 
 
 def inherited(
@@ -140,8 +148,7 @@ def inherited(
         above, handed = parents[parent] if parent >= 0 else ({}, [])
         own = {each.name for each in winners}
         mine = [
-            above.get(each.name, each) if lower(each.value) == "inherit" else each
-            for each in winners
+            above.get(each.name, each) if _is_of_parent(each, names) else each for each in winners
         ]
         more = [each for each in handed if each.name not in own]
         room.take(len(more))

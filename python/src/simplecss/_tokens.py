@@ -16,6 +16,7 @@ _KINDS = (
     " percentage dimension cdo cdc delim".split()
 )
 _AT_KEYWORD = _KINDS.index("at-keyword")
+_OPENING, _CLOSING = frozenset("([{"), frozenset(")]}")
 # What may be between two tokens.
 GAPS = frozenset(("whitespace", "comment"))
 COMBINATORS = frozenset((">", "+", "~"))
@@ -110,6 +111,23 @@ def keywords_in(text: str) -> List[str]:
 def without_gaps(text: str) -> List[Token]:
     """Returns the tokens of a text but for white space and comments."""
     return [each for each in tokens(text) if each.kind not in GAPS]
+
+
+def parts_of(head: str) -> List[List[Token]]:
+    """Returns the tokens of each selector of a list, without the blanks around it."""
+    parts: List[List[Token]] = [[]]
+    depth = 0
+    for token in tokens(head):
+        is_opening = token.kind == "function" or token.text in _OPENING
+        depth += is_opening - (token.text in _CLOSING)
+        if token.text == "," and depth == 0:
+            parts.append([])
+        elif parts[-1] or token.kind not in GAPS:
+            parts[-1].append(token)
+    for part in parts:
+        while part and part[-1].kind in GAPS:
+            part.pop()
+    return parts
 
 
 def originating(front: str) -> str:

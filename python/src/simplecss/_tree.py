@@ -2,10 +2,8 @@
 
 from __future__ import annotations
 
-import bisect
 import itertools
 from typing import (
-    AbstractSet,
     Any,
     Dict,
     FrozenSet,
@@ -30,13 +28,14 @@ from ._elements import (
     TreeError,
     states_of,
 )
-from ._selectors import MODERN, PORT, Reading, grammar_of
-from ._spaced import HTML_SPACE, SVG_SPACE, parted
+from ._encoding import text_of_page
+from ._given import expect_page
+from ._html import HtmlPage
+from ._selectors import MODERN, Reading, Selectors
+from ._spaced import SVG_SPACE, has_link, parted
 from ._words import words_of
-from ._xml import XmlError, read_xml
-from .html import Builder, TooDeep, decode_page
+from ._xml import SheetLink, XmlError, read_xml
 
-_LINK_SPACES = ("", HTML_SPACE, SVG_SPACE)
 # The nodes of BeautifulSoup that are no elements and no texts.
 _NO_TEXTS = frozenset(
     (
@@ -65,7 +64,58 @@ class Item(NamedTuple):
     text: str = ""
 
 
-class Element:
+class _Within:
+    """What elements are selected of: a tree, or what is within an element."""
+
+    __slots__ = ()
+
+    def _part(self) -> Tuple["Tree", int, int, int]:
+        """Returns the tree, the index of the element that `:scope` matches, or -1 for the root, and from which
+        index on and up to which the elements are."""
+        raise NotImplementedError
+
+    def select(
+        self,
+        selectors: Selectors,
+        *,
+        grammar: str = MODERN,
+        namespaces: Optional[Namespaces] = None,
+    ) -> List["Element"]:
+        """Returns the elements of a tree, or within an element, that one of the selectors matches, in order.
+
+        The selectors are separated by commas. A text that is not such a list raises `SelectorError`. `:scope`
+        matches the element itself, or the root of a tree: `element.select(":scope > p")` returns its children.
+        `grammar` is that of `Selector`. `namespaces` maps prefixes of modern selectors to namespaces, such as
+        `{"svg": "http://www.w3.org/2000/svg"}`; the empty prefix is that of names without one.
+        """
+        tree, scope, start, end = self._part()
+        question = tree._elements.question(selectors, grammar, namespaces, scope)
+        return list(tree._at(tree._elements.found(question, start, end)))
+
+    def iselect(
+        self,
+        selectors: Selectors,
+        *,
+        grammar: str = MODERN,
+        namespaces: Optional[Namespaces] = None,
+    ) -> Iterator["Element"]:
+        """Yields what `select` returns, each when it is wanted."""
+        tree, scope, start, end = self._part()
+        question = tree._elements.question(selectors, grammar, namespaces, scope)
+        return tree._at(tree._elements.found_when_wanted(question, start, end))
+
+    def select_one(
+        self,
+        selectors: Selectors,
+        *,
+        grammar: str = MODERN,
+        namespaces: Optional[Namespaces] = None,
+    ) -> Optional["Element"]:
+        """Returns the first of what `select` returns, or `None`."""
+        return next(self.iselect(selectors, grammar=grammar, namespaces=namespaces), None)
+
+
+class Element(_Within):
     """An element of a tree. Two are equal if they are the same element of the same tree."""
 
     __slots__ = ("tree", "index")
@@ -137,60 +187,54 @@ class Element:
         nodes = self.tree._elements.nodes
         return None if nodes is None else nodes[self.index]
 
+    def get(self, name: str, default: Optional[str] = None) -> Optional[str]:
+        """Returns the value of an attribute, or the default if there is no such attribute."""
+        return self.attributes.get(name, default)
+
+    def __getitem__(self, name: str) -> str:
+        """The value of an attribute. A name that the element does not have raises `KeyError`."""
+        if not isinstance(name, str):
+            raise TypeError(f"the name of an attribute is a text (str), not {type(name).__name__}")
+        return self.attributes[name]
+
+    def __contains__(self, name: object) -> bool:
+        """Whether the element has an attribute."""
+        return name in self.attributes
+
+    # Its children are `children`, and what it has are `attributes`.
+    __iter__ = None
+
     def matches(
         self,
-        selectors: str,
+        selectors: Selectors,
         *,
         grammar: str = MODERN,
         namespaces: Optional[Namespaces] = None,
     ) -> bool:
         """Whether one of the selectors matches the element, which is also what `:scope` matches."""
-        return self.index in self._found_set(selectors, grammar, namespaces)
+        elements, index = self.tree._elements, self.index
+        question = elements.question(selectors, grammar, namespaces, index)
+        return len(elements.found(question, index, index + 1)) > 0
 
     def closest(
         self,
-        selectors: str,
+        selectors: Selectors,
         *,
         grammar: str = MODERN,
         namespaces: Optional[Namespaces] = None,
     ) -> Optional["Element"]:
         """Returns the closest of the element and its ancestors that matches, or `None`. `:scope`
         matches the element itself."""
-        found = self._found_set(selectors, grammar, namespaces)
-        index = self.index
+        elements, index = self.tree._elements, self.index
+        question = elements.question(selectors, grammar, namespaces, index)
         while index >= 0:
-            if index in found:
+            if elements.found(question, index, index + 1):
                 return Element(self.tree, index)
-            index = self.tree._elements.parents[index]
+            index = elements.parents[index]
         return None
 
-    def select(
-        self,
-        selectors: str,
-        *,
-        grammar: str = MODERN,
-        namespaces: Optional[Namespaces] = None,
-    ) -> List["Element"]:
-        """Returns the elements within the element that match, in order. `:scope` matches the element
-        itself: `element.select(":scope > p")` returns its children."""
-        elements = self.tree._elements
-        if namespaces is None:
-            found = elements.found_from(self.index, selectors, grammar)
-        else:
-            _expect_modern(grammar)
-            found = elements.found_in(selectors, namespaces, self.index)
-        first = bisect.bisect_right(found, self.index)
-        last = bisect.bisect_left(found, elements.end_of(self.index))
-        return [Element(self.tree, index) for index in found[first:last]]
-
-    def _found_set(
-        self, selectors: str, grammar: str, namespaces: Optional[Namespaces]
-    ) -> AbstractSet[int]:
-        elements = self.tree._elements
-        if namespaces is None:
-            return elements.found_set_from(self.index, selectors, grammar)
-        _expect_modern(grammar)
-        return set(elements.found_in(selectors, namespaces, self.index))
+    def _part(self) -> Tuple["Tree", int, int, int]:
+        return self.tree, self.index, self.index + 1, self.tree._elements.end_of(self.index)
 
     def __eq__(self, other: object) -> bool:
         return isinstance(other, Element) and self.tree is other.tree and self.index == other.index
@@ -209,7 +253,7 @@ class Element:
         return f"<{' '.join(words)}>"
 
 
-class Tree:
+class Tree(_Within):
     """Elements in document order, which selectors are matched against."""
 
     def __init__(self, items: Iterable[Item] = ()) -> None:
@@ -233,6 +277,9 @@ class Tree:
             raise TypeError(f"an Item is expected, not {type(item).__name__}")
         if not isinstance(item.name, str) or not isinstance(item.attributes, Mapping):
             raise TypeError("an element has a text as its name and a mapping as its attributes")
+        for key, value in item.attributes.items():
+            if not isinstance(key, str) or not isinstance(value, str):
+                raise TypeError("the names and values of attributes are texts (str)")
         library.expect_text(item.text)
         if item.parent is not None:
             if not 0 <= item.parent < index:
@@ -254,10 +301,13 @@ class Tree:
         states: Optional[States] = None,
         *,
         is_part: bool = False,
+        encoding: Optional[str] = None,
     ) -> "Tree":
         """Reads an HTML document, as a browser does without scripts.
 
-        One in bytes is read in the encoding that it names. Bytes that are not in it raise
+        One in bytes is read in `encoding`, the label that a server names, or in the encoding that it
+        names itself, or else in UTF-8 if all of it can be, and in windows-1252 if not. A mark of the order
+        of bytes comes before these. Bytes without a meaning are U+FFFD. A label of no encoding raises
         `ValueError`.
 
         Names are in lower case, and the elements that a text leaves out (`html`, `head`, `body`,
@@ -265,16 +315,20 @@ class Tree:
         links. `states` maps selectors to the states of the elements that they match. `is_part`
         reads the content of a `body`, and adds no `html`, `head` and `body`.
         """
+        if encoding is not None:
+            library.expect_text(encoding)
         if isinstance(text, bytes):
-            text = decode_page(text)[0]
-        library.expect_text(text)
-        builder = Builder(text, is_part)
-        try:
-            builder.read()
-        except TooDeep as error:
-            raise TreeError(str(error), None, None) from None
+            text = text_of_page(text, encoding)
+        elif encoding is not None:
+            raise TypeError("a text has no encoding: pass the bytes")
+        else:
+            library.expect_text(text)
+            expect_page(text)
         tree = cls()
-        tree._elements.take_nodes(builder, is_part=is_part)
+        try:
+            tree._elements = Elements(HtmlPage(text, is_part=is_part))
+        except UnicodeEncodeError as error:
+            raise TreeError(f"a text is not Unicode: {error.reason}", None, None) from None
         return tree._with_states(states)
 
     @classmethod
@@ -284,6 +338,7 @@ class Tree:
         Names are local names, without a namespace. `a` and `area` with `href` are links.
         """
         library.expect_text(text)
+        expect_page(text)
         tree = cls()
         try:
             found = read_xml(text)
@@ -325,6 +380,7 @@ class Tree:
         """Takes an element or a whole tree of lxml. One that `lxml.html` made is HTML."""
         tree = cls.from_etree(root, None)
         top = root.getroot() if hasattr(root, "getroot") else root
+        tree._elements.links = list(_links_beside(top))
         if type(top).__module__.partition(".")[0] == "lxml" and "html" in type(top).__module__:
             doctype = getattr(getattr(top.getroottree(), "docinfo", None), "doctype", "")
             tree._elements.reading = Reading.HTML if doctype else Reading.QUIRKS
@@ -345,9 +401,11 @@ class Tree:
         waiting: List[Tuple[Any, int]] = [(root, -1)]
         while waiting:
             node, parent = waiting.pop()
-            if not hasattr(node, "contents"):
+            if isinstance(node, str):
                 kind = type(node).__name__
                 has_doctype = has_doctype or kind == "Doctype"
+                if kind == "XMLProcessingInstruction" and parent < 0:
+                    elements.links += _links_in_soup(str(node), bool(elements))
                 if kind not in _NO_TEXTS and node:
                     elements.texts.add(len(elements), parent, str(node))
                 continue
@@ -382,61 +440,21 @@ class Tree:
     def __repr__(self) -> str:
         return f"<Tree of {len(self)} elements>"
 
-    # ---- selectors
+    def _part(self) -> Tuple["Tree", int, int, int]:
+        return self, -1, 0, len(self)
 
-    def select(
-        self,
-        selectors: str,
-        *,
-        grammar: str = MODERN,
-        namespaces: Optional[Namespaces] = None,
-    ) -> List[Element]:
-        """Returns the elements that one of the selectors matches, in order.
-
-        The selectors are separated by commas. A text that is not such a list raises `SelectorError`.
-        `grammar` is that of `Selector`. `namespaces` maps prefixes of modern selectors to
-        namespaces, such as `{"svg": "http://www.w3.org/2000/svg"}`; the empty prefix is that of names
-        without one.
-        """
-        found = self._found(selectors, grammar, namespaces)
-        return list(map(Element, itertools.repeat(self), found))
-
-    def iselect(
-        self,
-        selectors: str,
-        *,
-        grammar: str = MODERN,
-        namespaces: Optional[Namespaces] = None,
-    ) -> Iterator[Element]:
-        """Yields the elements that one of the selectors matches, in order."""
-        return (Element(self, index) for index in self._found(selectors, grammar, namespaces))
-
-    def select_one(
-        self,
-        selectors: str,
-        *,
-        grammar: str = MODERN,
-        namespaces: Optional[Namespaces] = None,
-    ) -> Optional[Element]:
-        """Returns the first element that one of the selectors matches, or `None`."""
-        return next(self.iselect(selectors, grammar=grammar, namespaces=namespaces), None)
-
-    def _found(self, selectors: str, grammar: str, namespaces: Optional[Namespaces]) -> List[int]:
-        if namespaces is None:
-            return self._elements.found(selectors, grammar)
-        _expect_modern(grammar)
-        return self._elements.found_in(selectors, namespaces)
-
-
-def _expect_modern(grammar: str) -> None:
-    """Raises `ValueError` for the grammar of the Rust crate."""
-    if grammar_of(grammar) == PORT:
-        raise ValueError("the grammar of the Rust crate has no namespaces")
+    def _at(self, indices: Iterable[int]) -> Iterator[Element]:
+        return map(Element, itertools.repeat(self), indices)
 
 
 def elements_of(tree: Tree) -> Elements:
     """Returns the elements of a tree as the other modules of the package use them."""
     return tree._elements
+
+
+def plain_attributes(element: Element) -> Dict[str, str]:
+    """Returns the attributes of an element that are in no namespace."""
+    return element.tree._elements.plain[element.index]
 
 
 def _take_element(elements: Elements, node: Any, parent: int) -> int:
@@ -448,7 +466,8 @@ def _take_element(elements: Elements, node: Any, parent: int) -> int:
     elements.take_spaced(index, spaced and spaced.with_language())
     row = getattr(node, "sourceline", None)
     elements.places.append((row, None if row is None else 1))
-    if name in ("a", "area") and "href" in attributes and space[1:] in _LINK_SPACES:
+    plain, others = spaced or (attributes, [])
+    if has_link(name, space[1:], plain, others):
         elements.states[index] = LINK
     elements.spaces.append(space[1:])
     if space[1:] == SVG_SPACE:
@@ -461,14 +480,17 @@ def _take_element(elements: Elements, node: Any, parent: int) -> int:
 def _take_tag(elements: Elements, node: Any, parent: int) -> int:
     """Takes an element of BeautifulSoup. Returns its index."""
     attributes = {
-        str(key): " ".join(value) if isinstance(value, list) else str(value)
+        str(key): " ".join(value)
+        if isinstance(value, list)
+        else str("" if value is None else value)
         for key, value in node.attrs.items()
     }
     index = elements.add(node.name.rpartition(":")[2], attributes, parent)
     values = attributes.values()
     spaced = parted((*_name_in_soup(key), value) for key, value in zip(node.attrs, values))
     elements.take_spaced(index, spaced)
-    row, column = getattr(node, "sourceline", None), getattr(node, "sourcepos", None)
+    # A tag has as any other name what it finds in it.
+    row, column = map(vars(node).get, ("sourceline", "sourcepos"))
     elements.places.append((row, None if column is None else column + 1))
     if node.name in ("a", "area") and "href" in attributes:
         elements.states[index] = LINK
@@ -478,6 +500,22 @@ def _take_tag(elements: Elements, node: Any, parent: int) -> int:
     if elements.nodes is not None:
         elements.nodes.append(node)
     return index
+
+
+def _links_beside(root: Any) -> Iterator[SheetLink]:
+    """Yields the instructions beside the root of a document of lxml that name style sheets."""
+    for is_last in (False, True) if root.getparent() is None else ():
+        found = list(root.itersiblings(preceding=not is_last))
+        for each in found if is_last else reversed(found):
+            if getattr(each, "target", "") == "xml-stylesheet":
+                yield from SheetLink.of(each.text or "", is_last)
+
+
+def _links_in_soup(text: str, is_last: bool) -> Iterator[SheetLink]:
+    """Yields the instruction that a text of BeautifulSoup is, if it names a style sheet."""
+    words = text.rstrip("?").split(None, 1)
+    if words[:1] == ["xml-stylesheet"]:
+        yield from SheetLink.of("".join(words[1:]), is_last)
 
 
 def _cut(name: str) -> Tuple[str, str]:

@@ -22,14 +22,12 @@ from ._declaration import Declaration
 from ._device import LAYER, Media, holds
 from ._linked import Piece
 from ._elements import Elements
-from ._nested import Block
 from ._reading import (
     Condition,
+    Contents,
     DeclarationReader,
     Outer,
     Source,
-    Statement,
-    conditions_of,
 )
 from ._selectors import Specificity
 from ._spaced import HTML_SPACE
@@ -38,9 +36,8 @@ from ._specified import Own
 # How many numbers the library writes of a rule before those of its declarations, of each of these,
 # and of a declaration that wins.
 _OF_RULE, _OF_DECLARATION, _OF_WINNER = 9, 6, 2
-# What a sheet has: its text, its statements, the blocks of rules in style rules, and the group rules that
-# all of it is in.
-ReadSheet = Tuple[Source, List[Statement], List[Block], Tuple[Outer, ...]]
+# What a sheet has: its text, and the group rules that all of it is in.
+ReadSheet = Tuple[Source, Tuple[Outer, ...]]
 Applies = Callable[[Condition], bool]
 # The origins of sheets, and how the library numbers them.
 ORIGINS: Dict[str, int] = {"author": 0, "user": 1, "user-agent": 2}
@@ -93,28 +90,30 @@ class PlacedRule(NamedTuple):
     element_length: int
 
 
-def _held(
-    statements: Iterable[Statement], blocks: Iterable[Block], applies: Applies
-) -> Iterator[Condition]:
-    """Yields the group rules of a sheet that hold."""
-    each_conditions = itertools.chain(
-        (conditions_of(each.levels) for each in statements),
-        (each.conditions for each in blocks),
-    )
-    for conditions in each_conditions:
-        yield from itertools.takewhile(applies, conditions)
+def _held(source: Source, applies: Applies) -> Iterator[Condition]:
+    """Yields the group rules of a sheet that hold, each of those in no other that does not."""
+    # Whether what is in each rule that is open applies.
+    around = [True]
+    for rule in Contents(source).rules() if b"@" in source.data else ():
+        if rule is None:
+            around.pop()
+        elif rule.condition is None or not around[-1]:
+            around.append(around[-1])
+        else:
+            around.append(applies(rule.condition))
+            if around[-1]:
+                yield rule.condition
 
 
 def _groups_in(sheets: Iterable[ReadSheet], applies: Applies) -> Dict[Outer, int]:
     """Returns the group rules of sheets that hold, and the layers that all of a sheet is in, each with
     its index."""
     found: Dict[Outer, int] = {}
-    for _, statements, blocks, around in sheets:
+    for source, around in sheets:
         conditions = [each.condition for each in around]
         every = [each for each in around if applies(each.condition)]
         if len(every) == len(conditions):
-            held = _held(statements, blocks, applies)
-            every += [Outer(each) for each in held if each.name != LAYER]
+            every += [Outer(each) for each in _held(source, applies) if each.name != LAYER]
         for one in every:
             found.setdefault(one, len(found))
     return found
@@ -152,7 +151,7 @@ class Winning:
             [ORIGINS[origins[number]] for number in self._numbers],
             # A group rule that does not hold has no index.
             [
-                [groups.get(each, library.NO_LIMIT) for each in sheets[number][3]]
+                [groups.get(each, library.NO_LIMIT) for each in sheets[number][1]]
                 for number in self._numbers
             ],
         )
@@ -163,8 +162,6 @@ class Winning:
         self.rules = list(self._read([each[0] for each in sheets], limit))
         # How many declarations the rules have.
         self.count = sum(len(each.declarations) for each in self.rules)
-        # How many rules are before those of the author, which are the last.
-        self._before = sum(origins[each.sheet] != AUTHOR for each in self.rules)
 
     def _read(self, sources: Sequence[Source], limit: int) -> Iterator[PlacedRule]:
         """Yields the rules."""
@@ -252,13 +249,7 @@ class Winning:
             found = known.get(key)
             if found is None:
                 pairs = zip(numbers[at + 1 : end : 2], numbers[at + 2 : end : 2])
-                each = (self._at(own, index, *pair) for pair in sorted(pairs, key=self._turn))
+                each = (self._at(own, index, *pair) for pair in pairs)
                 found = known[key] = [one for one in each if one is not None]
             yield found.copy()
             at = end
-
-    def _turn(self, pair: Tuple[int, int]) -> float:
-        """Returns when the cascade takes a declaration that wins: those of presentation attributes before
-        the author's."""
-        is_presented = pair[0] == len(self.rules) + 1
-        return self._before - 0.5 if is_presented else pair[0]

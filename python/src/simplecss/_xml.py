@@ -2,10 +2,10 @@
 
 from __future__ import annotations
 
-from typing import Dict, List, NamedTuple, Optional, Tuple
+from typing import Dict, Iterator, List, NamedTuple, Optional, Tuple
 
 from ._patterns import pattern
-from ._spaced import Attributes, SpacedAttribute
+from ._spaced import Attributes, SpacedAttribute, has_link
 from ._words import lower
 
 # How many characters entities may add to a document, and attributes of their own beside those that
@@ -13,8 +13,6 @@ from ._words import lower
 # named.
 _MOST_ADDED = 1_000_000
 _LONGEST_SPACE = 1_000
-
-_LINK_SPACES = ("", "http://www.w3.org/1999/xhtml", "http://www.w3.org/2000/svg")
 
 
 class XmlError(ValueError):
@@ -61,12 +59,68 @@ class XmlTag:
         self.is_link = False
 
 
+class SheetLink(NamedTuple):
+    """An instruction `xml-stylesheet` beside the root of a document: its attributes, whether it is after
+    the root, and where it is, if that is known."""
+
+    attributes: Dict[str, str]
+    is_last: bool
+    span: Tuple[int, int] = (-1, -1)
+
+    @property
+    def href(self) -> str:
+        """The url of the sheet."""
+        return self.attributes.get("href", "")
+
+    @property
+    def media(self) -> str:
+        """For which media it is."""
+        return self.attributes.get("media", "")
+
+    @property
+    def title(self) -> str:
+        """The title of the sheet."""
+        return self.attributes.get("title", "")
+
+    @property
+    def is_alternate(self) -> bool:
+        """Whether the sheet is used only where its title is chosen."""
+        return self.attributes.get("alternate") == "yes"
+
+    @classmethod
+    def of(
+        cls, data: str, is_last: bool, span: Tuple[int, int] = (-1, -1)
+    ) -> "Iterator[SheetLink]":
+        """Yields what an instruction with this text is (Associating Style Sheets with XML documents 1.0):
+        nothing, if it names no style sheet in CSS."""
+        found = cls(_attributes_in(data), is_last, span)
+        is_named = bool(found.href) and not found.href.startswith("#")
+        is_css = found.attributes.get("type", "") in ("", "text/css")
+        if is_named and is_css and (found.title or not found.is_alternate):
+            yield found
+
+
+def _attributes_in(data: str) -> Dict[str, str]:
+    """Returns the attributes in the text of an instruction, or none if it has anything else."""
+    from xml.parsers import expat
+
+    found: List[Dict[str, str]] = []
+    parser = expat.ParserCreate("utf-8")
+    parser.StartElementHandler = lambda _, attributes: found.append(attributes)
+    try:
+        parser.Parse(f"<x {data}/>".encode("utf-8"), True)
+    except expat.ExpatError:
+        return {}
+    return found[0] if len(found) == 1 else {}
+
+
 class XmlDocument(NamedTuple):
-    """The elements in document order; and the texts, each with how many elements begin before it
-    and the element that it is in."""
+    """The elements in document order; the texts, each with how many elements begin before it and the
+    element that it is in; and the style sheets that instructions name."""
 
     tags: List[XmlTag]
     texts: List[Tuple[int, int, str]]
+    links: List[SheetLink]
 
 
 class _Offsets:
@@ -103,6 +157,8 @@ class _Reader:
         self.offsets = _Offsets(text)
         self.tags: List[XmlTag] = []
         self.texts: List[Tuple[int, int, str]] = []
+        self.links: List[SheetLink] = []
+        self.is_in_doctype = False
         self.open: List[int] = []
         # The lengths of the document's own entities, and how long attributes may yet be.
         self.entities: Dict[str, int] = {}
@@ -117,7 +173,9 @@ class _Reader:
         self.parser.ordered_attributes = True
         self.parser.buffer_text = True
         self.parser.EntityDeclHandler = self._declare
-        self.parser.EndDoctypeDeclHandler = self._count
+        self.parser.StartDoctypeDeclHandler = self._begin_doctype
+        self.parser.EndDoctypeDeclHandler = self._end_doctype
+        self.parser.ProcessingInstructionHandler = self._instruct
         self.parser.StartNamespaceDeclHandler = self._name_space
         self.parser.StartElementHandler = self._start
         self.parser.EndElementHandler = self._end
@@ -132,7 +190,7 @@ class _Reader:
         except ExpatError as error:
             reason = ErrorString(error.code) or "not well-formed"
             raise XmlError(reason, error.lineno, error.offset + 1) from None
-        return XmlDocument(self.tags, self.texts)
+        return XmlDocument(self.tags, self.texts, self.links)
 
     def _refused(self, reason: str) -> XmlError:
         """Returns an error at the place that is read."""
@@ -147,6 +205,20 @@ class _Reader:
         if "<" in value or names - _OF_XML:
             raise self._refused(f"the entity {name!r} is not only text")
         self.entities.setdefault(name, len(value))
+
+    def _begin_doctype(self, *_: object) -> None:
+        self.is_in_doctype = True
+
+    def _end_doctype(self) -> None:
+        self.is_in_doctype = False
+        self._count()
+
+    def _instruct(self, target: str, data: str) -> None:
+        """Takes an instruction beside the root."""
+        if target == "xml-stylesheet" and not self.open and not self.is_in_doctype:
+            start = self.offsets.of(self.parser.CurrentByteIndex)
+            end = self.text.find("?>", start) + len("?>")
+            self.links += SheetLink.of(data, bool(self.tags), (start, end))
 
     def _count(self) -> None:
         """Counts the characters that entities add, before any is read."""
@@ -179,11 +251,11 @@ class _Reader:
                 tag.attributes[key_name] = value
         if self.room < 0:
             raise self._refused(f"attributes without a text add more than {_MOST_ADDED} characters")
+        tag.is_link = has_link(local, space, tag.attributes, spaced)
         if spaced:
             tag.spaced = Attributes(tag.attributes.copy(), spaced).with_language()
         for key, value in {name: value for _, name, value in spaced}.items():
             tag.attributes.setdefault(key, value)
-        tag.is_link = local in ("a", "area") and "href" in tag.attributes and space in _LINK_SPACES
         self.open.append(len(self.tags))
         self.tags.append(tag)
 
