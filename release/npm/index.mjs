@@ -1,8 +1,8 @@
-// The library with its module in it, for node, browsers and bundlers alike.
-import { start } from './library.mjs';
+// The library with its modules in it, for node, browsers and bundlers alike.
 import bytes from './bytes.mjs';
+import { provide } from './library.mjs';
 import * as simplecss from './simplecss.mjs';
 
-start(new WebAssembly.Module(bytes));
+provide({ first: bytes });
 export * from './simplecss.mjs';
 export default simplecss;

@@ -1,4 +1,4 @@
-// The C library as WebAssembly, and how it is called. Nothing is kept between calls but the module itself.
+// The C library as WebAssembly, and how it is called. Nothing is kept between calls but the module itself, and pages.
 
 const DONE = 0, REFUSED = 1, TREE_FAULT = 2, OUT_OF_MEMORY = 3, TOO_MANY = 4, TOO_SMALL = 6,
   TOO_MANY_LAYERS = 7;
@@ -29,25 +29,68 @@ export class TreeError extends Error {
   }
 }
 
+/** Throws a `TypeError` for an option that is none of these. */
+export function expectOptions(options, names) {
+  if (options === undefined || options === null) return;
+  if (typeof options !== 'object') throw new TypeError('options are an object');
+  for (const each of Object.keys(options)) if (!names.includes(each)) throw new TypeError(`unknown option: ${each}`);
+}
+
 let library;
 // Whether the module is compiled from the erased sources: its numbers have 32 bits, and not 64.
 let isErased;
+// Functions that return the two modules, or their bytes. The first one has the table in which the second one puts its functions.
+const sources = {
+  first() { throw new Error('simplecss: call load first'); },
+  second() { throw new Error('simplecss: call loadSecond first'); },
+};
+const TABLE = '%table';
+
+/** Says what returns the first module or the second one, or their bytes. Each is asked for when something of it is called. */
+export function provide(given) {
+  Object.assign(sources, given);
+}
+
+/** Returns a compiled module. */
+function compiled(source) {
+  return source instanceof WebAssembly.Module ? source : new WebAssembly.Module(source);
+}
 
 /** Starts a compiled module. Those that are exported use the one that was started last. */
-export function start(module) {
-  library = new WebAssembly.Instance(module, {}).exports;
+function start(module) {
+  const imports = {};
+  for (const { module: space, name } of WebAssembly.Module.imports(module)) {
+    // In place of a function of the second module, which replaces it in the table.
+    const ask = (...words) => {
+      new WebAssembly.Instance(compiled(sources.second()), { primary: started });
+      return started[TABLE].get(Number(name))(...words);
+    };
+    imports[space] = { ...imports[space], [name]: ask };
+  }
+  const started = new WebAssembly.Instance(module, imports).exports;
+  library = started;
   isErased = library.simplecss_is_erased !== undefined;
+}
+
+/** Starts the first module, if none is. */
+function ready() {
+  if (!library) start(compiled(sources.first()));
 }
 
 /** Whether the library is the one that is proved, and not one that is compiled from the erased sources. */
 export function isProved() {
+  ready();
   return !isErased;
 }
 
-/** Calls a function of the module with numbers, of which one that is too great for it stands for the greatest. */
+/** Returns a number for a module whose numbers have 32 bits: one that is too great for it stands for the greatest. */
+function narrowed(number) {
+  return Number(number < MOST_NARROW ? number : MOST_NARROW);
+}
+
+/** Calls a function of the module with numbers. */
 function invoke(name, numbers) {
-  const given = isErased ? numbers.map(each => Number(each < MOST_NARROW ? each : MOST_NARROW)) : numbers;
-  return library[name](...given);
+  return library[name](...(isErased ? numbers.map(narrowed) : numbers));
 }
 
 /** Returns the bytes of a text, or of numbers as the module has them: a half of one of 64 bits is 0. */
@@ -76,12 +119,23 @@ function numbersOf(bytes) {
   return Array.from({ length: bytes.length / size }, (_, index) => sizeAt(view, index * size));
 }
 
-/** Compiles a module, and starts it: from a Response, or what will be one, from bytes, or a compiled module. */
-export async function load(source) {
+/** Returns what is compiled from a Response, or what will be one, from bytes, or a compiled module. */
+async function compiledOf(source) {
   const given = await source;
-  if (given instanceof WebAssembly.Module) return start(given);
+  if (given instanceof WebAssembly.Module) return given;
   const isResponse = globalThis.Response !== undefined && given instanceof Response;
-  return start(await (isResponse ? WebAssembly.compileStreaming(given) : WebAssembly.compile(given)));
+  return isResponse ? WebAssembly.compileStreaming(given) : WebAssembly.compile(given);
+}
+
+/** Compiles the first module, and starts it. */
+export async function load(source) {
+  start(await compiledOf(source));
+}
+
+/** Compiles the second module, for the calls that are in it. */
+export async function loadSecond(source) {
+  const module = await compiledOf(source);
+  provide({ second: () => module });
 }
 
 /** Refuses what is not a text. */
@@ -165,7 +219,7 @@ function placed(word) {
   if (word.structure) return placed(new Uint8Array(word.structure.buffer)).slice(0, 1);
   if (word.arrays) {
     const numbers = word.arrays.flatMap(placed);
-    return placed({ structure: isErased ? Uint32Array.from(numbers, Number) : BigUint64Array.from(numbers) });
+    return placed({ structure: isErased ? Uint32Array.from(numbers, narrowed) : BigUint64Array.from(numbers) });
   }
   const bytes = bytesOf(word), at = take(bytes.length);
   new Uint8Array(library.memory.buffer, Number(at), bytes.length).set(bytes);
@@ -178,11 +232,23 @@ function placed(word) {
  * `room` is the length of the first buffer; a call that needs a longer one is made again. `most` is the most bytes that the
  * answer may have. A call that takes a tree reports its fault. Of some the answer is in numbers, of others in bytes.
  */
-export function call(name, words, { room = 65536, most, hasTree = false, isNumbers = false, isBytes = false } = {}) {
-  if (!library) throw new Error('simplecss: call load first');
+export function call(name, words, options = {}) {
+  return answered(name, options, () => {
+    reset();
+    return words.flatMap(placed);
+  });
+}
+
+/** Frees what was taken of the module's memory. What the library keeps, stays. */
+function reset() {
+  ready();
+  library.simplecss_reset();
+}
+
+/** Calls a function of the library with what is given to it before each try, and returns what it writes. */
+function answered(name, { room = 65536, most, hasTree = false, isNumbers = false, isBytes = false }, prepare) {
   for (;;) {
-    library.simplecss_reset();
-    const given = words.flatMap(placed);
+    const given = prepare();
     if (most !== undefined) given.push(most);
     const size = isNumbers ? sizeLength() : 1;
     const out = take(room * size), length = take(24);
@@ -200,6 +266,108 @@ export function call(name, words, { room = 65536, most, hasTree = false, isNumbe
     if (status !== TOO_SMALL) throw failure(name, status, view);
     room = written;
   }
+}
+
+/**
+ * Makes the list of selectors that a text is, asks it, and lets it go. Returns what `ask` does, which is given a function that
+ * asks the list a question, or null where the text is no list. Nothing else may be called meanwhile: a call frees its handle.
+ */
+export function askList(text, grammar, ask) {
+  reset();
+  const list = take(sizeLength());
+  new Uint8Array(library.memory.buffer, Number(list), sizeLength()).fill(0);
+  const status = invoke('simplecss_list_new', [...placed(text), grammar, list]);
+  if (status === REFUSED) return null;
+  if (status !== DONE) throw failure('list_new', status);
+  try {
+    return ask((name, options) => answered(`list_${name}`, options, () => [list]));
+  } finally {
+    invoke('simplecss_list_free', [list]);
+  }
+}
+
+/** Lets the page go that a module keeps at a place, unless another one was started since. */
+function freePage({ module, at }) {
+  if (module !== library) return;
+  reset();
+  invoke('simplecss_page_free', placed({ arrays: [at] }));
+}
+
+// The pages that nobody can ask any more are let go.
+const unreachable = new FinalizationRegistry(freePage);
+
+/**
+ * A tree that is asked which of its elements selectors match, whose names compare as a grammar says. The library has a copy of it
+ * until `close`, or until nobody can ask it any more.
+ */
+export class KeptPage {
+  #kept;
+
+  constructor(tree, grammar) {
+    reset();
+    const [page] = placed(tree), [handle] = placed({ arrays: [0n] }), end = take(24);
+    const status = invoke('simplecss_page_new', [page, grammar, handle, end + 8n]);
+    const { buffer } = library.memory;
+    if (status !== DONE) throw failure('page_new', status, new DataView(buffer, Number(end), 24));
+    const at = BigInt(sizeAt(new DataView(buffer, Number(handle), sizeLength()), 0));
+    this.#kept = { module: library, at };
+    unreachable.register(this, this.#kept, this);
+  }
+
+  /** Whether another module was started since, which has no such page. */
+  get isLeft() { return this.#kept.module !== library; }
+
+  /**
+   * Returns the indices of the elements from one up to another that a list of selectors matches, or null where it is refused.
+   * `:scope` matches the element at an index, or with -1 the root.
+   */
+  select(selectors, scope, start, end) {
+    const words = [{ arrays: [this.#kept.at] }, selectors, ...[scope + 1, start, end].map(BigInt)];
+    // Each element is written once at most.
+    const numbers = call('page_select', words, { room: end - start, most: NO_LIMIT, isNumbers: true });
+    return numbers && numbers.map(number => number - 1);
+  }
+
+  /** Lets the page go. */
+  close() {
+    unreachable.unregister(this);
+    freePage(this.#kept);
+    this.#kept.at = 0n;
+  }
+}
+
+/**
+ * Reads a page in HTML, or the content of an element in a namespace, whose start tag without `<` and `>` is `context`. Returns its
+ * numbers and the bytes of its strings.
+ */
+export function readPage(text, { space = 0n, context = '', flags = 0n } = {}) {
+  ready();
+  const words = [text, space, encode(context), flags], size = sizeLength();
+  for (let room = Math.floor(text.length / 2) + 1024, length = text.length + 1024; ;) {
+    library.simplecss_reset();
+    const given = words.flatMap(placed), lengths = take(16);
+    const out = take(room * size), strings = take(length);
+    given.push(out, BigInt(room), lengths, strings, BigInt(length), lengths + 8n);
+    const status = invoke('simplecss_html', given);
+    const { buffer } = library.memory, view = new DataView(buffer, Number(lengths), 16);
+    [room, length] = [sizeAt(view, 0), sizeAt(view, 8)];
+    if (status === DONE) {
+      const numbers = numbersOf(new Uint8Array(buffer, Number(out), room * size));
+      return { numbers, strings: new Uint8Array(buffer, Number(strings), length).slice() };
+    }
+    if (status === TOO_MANY) throw new LimitError('elements are nested in a way that takes time or elements out of proportion');
+    if (status !== TOO_SMALL) throw failure('html', status, view);
+  }
+}
+
+/**
+ * Returns the name of the encoding that a page in bytes is in, and what says it: a mark at its front, the label that comes with it,
+ * its first 1,024 bytes, or nothing.
+ */
+export function encodingOf(page, label = '') {
+  if (!(page instanceof Uint8Array)) throw new TypeError('the bytes of a page are expected');
+  const [source, name] = call('html_encoding', [page, encode(label)], { room: 64 }).split('\t');
+  return { name, source };
 }
 
 /** Returns the error that a status means. */

@@ -1,6 +1,6 @@
 // Mistakes in style sheets.
-import { problemsOfSheet } from './mistakes.mjs';
-import { Source, readSheet } from './reading.mjs';
+import { call, encode, expectOptions, expectText } from './library.mjs';
+import { Source } from './reading.mjs';
 import { skippedByPort, wordsOf } from './sheet.mjs';
 import { tokens } from './tokens.mjs';
 import { PORT, grammarOf } from './tree.mjs';
@@ -10,16 +10,44 @@ import { PORT, grammarOf } from './tree.mjs';
 const IGNORE = 'simplecss-ignore';
 // How many characters of a text a message has.
 const SHOWN = 60;
+// What the library is asked for: the mistakes of a text, and whether properties take values.
+const MISTAKES = 0n, VALUES = 8n;
 
-/** Returns a text for one line, with U+FFFD for each control character. */
+// The control characters; what changes the order of the characters around it, ends a line, or cannot be seen; and halves of
+// characters.
+const HIDDEN = new RegExp('[\\0-\\x1f\\x7f-\\x9f\\xad\\u061c\\u180e\\u200b-\\u200f\\u2028-\\u202e\\u2060-\\u206f\\ufeff'
+  + '\\ufff9-\\ufffb\\ud800-\\udfff\\u{e0000}-\\u{e007f}]', 'gu');
+
+/** Returns a text for one line, with U+FFFD for each character that a line for people does not have. */
 export function printable(text) {
-  return text.replace(/[\0-\x1f\x7f-\x9f]/g, '\ufffd');
+  return text.replace(HIDDEN, '\ufffd');
+}
+
+/** Returns the lines that the library writes. */
+function linesOf(data, asked) {
+  return call('lint', [data, asked], { room: 1024 + data.length }).split('\n').slice(0, -1);
+}
+
+/**
+ * Returns whether a property takes a value, which has no `!important`: true if the standards and browsers take it, and false if none
+ * of them does. What is not known is null.
+ */
+export function takesValue(name, value) {
+  expectText(name);
+  expectText(value);
+  if (name.includes(':') || `${name}${value}`.includes('\n')) return null;
+  const [found] = linesOf(encode(`${name}:${value}`), VALUES);
+  return found === 'unknown' ? null : found === 'valid';
 }
 
 /** Returns a text, and why something of it is reported, and where. */
 function reported(text) {
-  const { source, statements } = readSheet(text);
-  return { source, problems: problemsOfSheet(source, statements) };
+  const source = new Source(text);
+  const problems = linesOf(source.data, MISTAKES).map(line => {
+    const [reason, start, end, hint] = line.split('\t');
+    return { reason, span: [Number(start), Number(end)], hint: hint || null };
+  });
+  return { source, problems };
 }
 
 function reportedByPort(text) {
@@ -70,6 +98,7 @@ function findingOf(source, { reason, span, hint }) {
 
 /** Returns the mistakes of a style sheet, in order, without those of the kinds that are left out. */
 export function lint(text, options) {
+  expectOptions(options, ['grammar', 'ignore']);
   const { source, problems } = grammarOf(options) === PORT ? reportedByPort(text) : reported(text);
   const rows = ignoredIn(source.text), everywhere = new Set([options?.ignore ?? []].flat());
   return problems

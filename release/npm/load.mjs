@@ -1,3 +1,4 @@
-// The library without its module, for pages that fetch `simplecss.wasm`: call `load` first.
-export { load } from './library.mjs';
-export * from './simplecss.mjs';
+// The library without its modules, for pages that fetch `simplecss.wasm` and `second.wasm`.
+export { load, loadSecond } from './library.mjs';
+export * from './first.mjs';
+export * from './second.mjs';

@@ -211,12 +211,12 @@ class Reader {
     };
   }
 
-  #declaration([, start, length, isClosed, name, nameLength, value, valueLength, isImportant]) {
-    const closed = isClosed === 1, nameSpan = [name, name + nameLength], valueSpan = [value, value + valueLength];
+  #declaration(row) {
+    const [, start, length, isClosed] = row;
     return {
       kind: 'declaration',
-      declaration: declared(this.source, nameSpan, valueSpan, isImportant === 1, closed),
-      isClosed: closed,
+      declaration: declarationAt(this.source, row),
+      isClosed: isClosed === 1,
       span: [start, start + length],
     };
   }
@@ -287,6 +287,18 @@ function declarationsIn(items) {
 export function readSheet(text) {
   const reader = new Reader(text);
   return { source: reader.source, statements: reader.statements() };
+}
+
+/** Whether elements are matched by a selector, or null if a text is none. */
+export function isSupported(text) {
+  const [found, ...more] = readSheet(`${text}{}`).statements;
+  if (more.length || found?.kind !== 'rule' || found.selectors.length !== 1) return null;
+  return found.selectors[0].specificity !== null;
+}
+
+/** Returns the declaration of a row of numbers that the library writes of an item. */
+export function declarationAt(source, [, , , isClosed, name, nameLength, value, valueLength, isImportant]) {
+  return declared(source, [name, name + nameLength], [value, value + valueLength], isImportant === 1, isClosed === 1);
 }
 
 /** Returns what a style attribute or the block of a rule has. */

@@ -1,5 +1,5 @@
 // Properties by their names: shorthands, what is inherited, and values with `var()`.
-import { call, decode, encode, joined, limited, mostWritten } from './library.mjs';
+import { call, decode, encode, expectOptions, joined, limited, mostWritten } from './library.mjs';
 import { lower } from './reading.mjs';
 
 // How many bytes a value may have whose references are replaced.
@@ -38,9 +38,12 @@ export function isInherited(name) {
 }
 
 /** Whether each `var()` of a value has the name of a custom property, and nothing else but a fallback. */
-export function isValidValue(value) {
+export function hasValidReferences(value) {
   return call('valid_value', [encode(value)]) === 'true';
 }
+
+/** The old name of `hasValidReferences`. */
+export const isValidValue = hasValidReferences;
 
 /** Returns the values of the lengths and bytes that the library writes. */
 function valuesIn(bytes, count) {
@@ -56,7 +59,9 @@ function valuesIn(bytes, count) {
 
 /** Returns the computed value of each property, of pairs of a name and a value, where the parent has these others, and of the
  * `@property` rules that are registered there are what is before the block and what is in it. */
-export function resolve(properties, inherited = [], { registered = [], limit = LONGEST } = {}) {
+export function resolve(properties, inherited = [], options = {}) {
+  expectOptions(options, ['registered', 'limit']);
+  const { registered = [], limit = LONGEST } = options ?? {};
   const own = [...properties], rules = [...registered], [texts, ends] = joined([...own, ...rules, ...inherited].flat());
   const words = [texts, ends, BigInt(own.length), BigInt(rules.length), limited(limit)];
   return valuesIn(encode(call('values', words, { most: mostWritten(texts.length) })), own.length);

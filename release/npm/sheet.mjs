@@ -1,17 +1,23 @@
 // Selectors and style sheets: which rules match the elements of a tree, and which declarations win on them.
-import { holds } from './device.mjs';
-import { Lines, LimitError, call, decode, encode, expectText, joined, limited, rowsOf } from './library.mjs';
-import { Places, blocksOf, everyBlock } from './nested.mjs';
-import { conditionsOf, readSheet, Source } from './reading.mjs';
+import { deviceOf, holds } from './device.mjs';
+import { Lines, LimitError, askList, call, decode, encode, expectOptions, expectText, joined, limited } from './library.mjs';
+import { Places, blocksOf, everyBlock, unsupportedIn } from './nested.mjs';
+import { prettify } from './printing.mjs';
+import { conditionsOf, lower, readSheet, Source } from './reading.mjs';
 import { decoded, originating, pseudoNames } from './tokens.mjs';
-import { NUMBERS, PORT, SelectorError, Tree, grammarOf, matches, selected } from './tree.mjs';
+import { NUMBERS, PORT, ReadText, SelectorError, Tree, grammarOf, matches, refusedList } from './tree.mjs';
+import { unusedOf } from './unused.mjs';
 import { Winning } from './winners.mjs';
 
 // The limits where none is named: of the declarations of rules, and of the rules and declarations of an answer.
 const USUAL_LIMIT = 1_000_000, USUAL_ANSWER_LIMIT = 10_000_000;
+// What a sheet past its limit says.
+const TOO_MANY = 'the rules would hold more declarations than the limit';
 // How many times an answer's limit the declarations that are compared may be, as elements times those of all rules, before it is
 // told how many they are.
 const COMPARED = 10;
+// The options of a sheet, and the at-rules that an `@import` may be after.
+const SHEET_OPTIONS = ['grammar', 'limit', 'answerLimit'], FIRST = new Set(['charset', 'import', 'layer']);
 // The group rules.
 const GROUP_RULES = new Set(['media', 'supports', 'layer', 'container', 'document', '-moz-document']);
 // How many numbers the library writes of a selector of a list.
@@ -20,25 +26,25 @@ const OF_LISTED = 10;
 const MOST_BYTES = 64;
 
 /** A selector. As a string it is its text as the library prints it. */
-export class Selector {
+export class Selector extends ReadText {
   #text;
-  #source;
-  #options;
 
   constructor(text, options) {
+    expectOptions(options, ['grammar']);
     const grammar = grammarOf(options);
-    const data = encode(text), words = [data, NUMBERS[grammar]];
-    const found = rowsOf(selected('list', text, grammar, words, { isNumbers: true }), OF_LISTED);
-    if (found.length !== 1) throw new SelectorError('more than one selector', 1, 1);
-    const [start, length, , ids, classes, types, element, name] = found[0], end = start + length;
-    this.#source = text;
-    this.#options = { grammar };
-    this.#text = call('printed', words);
+    const data = encode(text);
+    super(text, grammar);
+    const found = askList(data, NUMBERS[grammar], ask => [ask('numbers', { isNumbers: true }), ask('text', {})]);
+    if (found === null) throw refusedList(text, grammar);
+    const [numbers, printed] = found;
+    if (numbers.length !== OF_LISTED) throw new SelectorError('more than one selector', 1, 1);
+    const [start, length, , ids, classes, types, element, name] = numbers, end = start + length;
+    this.#text = printed;
     this.specificity = [ids, classes, types];
     this.pseudoElement = element < end ? decoded(decode(data.subarray(name, end)), false) : null;
   }
 
-  matches(element) { return matches(element, this.#source, this.#options); }
+  matches(element) { return matches(element, this); }
   toString() { return this.#text; }
 }
 
@@ -69,12 +75,13 @@ export class StyleSheet {
   #contents;
   #winningOn = new Map();
 
-  constructor(texts, options = {}) {
+  constructor(texts, options) {
+    expectOptions(options, SHEET_OPTIONS);
     this.#texts = typeof texts === 'string' ? [texts] : [...texts];
     this.#texts.forEach(expectText);
     this.#grammar = grammarOf(options);
-    this.#limit = options.limit ?? USUAL_LIMIT;
-    this.#answerLimit = options.answerLimit ?? USUAL_ANSWER_LIMIT;
+    this.#limit = options?.limit ?? USUAL_LIMIT;
+    this.#answerLimit = options?.answerLimit ?? USUAL_ANSWER_LIMIT;
     limited(this.#limit);
     limited(this.#answerLimit);
   }
@@ -124,13 +131,14 @@ export class StyleSheet {
     // Of a rule without declarations the library does not say whether it knows its namespaces.
     const isKnown = ({ declarations, sheet }, block, text) => (
       spaced.has(sheet) && declarations.length === 0 || supported.has(`${block} ${text}`));
-    const { rules, unsupported } = rulesOf(read, new Set(nested.map(each => each.block)), isKnown);
+    const { rules, unsupported: outermost } = rulesOf(read, new Set(nested.map(each => each.block)), isKnown);
+    const unsupported = [...outermost, ...this.#unsupportedIn(nested)].sort((a, b) => a.sheet - b.sheet || a.at - b.at);
     const every = [...rules, ...nested].sort(inOrder), starts = new Set(nested.map(each => each.start)), places = new Map();
     every.forEach(({ start }, index) => {
       if (starts.has(start)) places.set(start, [...places.get(start) ?? [], index]);
     });
     const atRules = read.flatMap(each => each.statements.flatMap(atRulesOf)).map(each => each.rule);
-    return { rules: every.map(each => each.rule), unsupported, atRules, nested: places };
+    return { rules: every.map(each => each.rule), unsupported: unsupported.map(each => each.rule), atRules, nested: places };
   }
 
   /**
@@ -148,10 +156,48 @@ export class StyleSheet {
     }
   }
 
+  /** Yields the unsupported rules in style rules, and where each is. These are the supported ones. */
+  * #unsupportedIn(nested) {
+    const placed = this.#statements().map(() => new Map());
+    for (const { sheet, first, text } of nested) {
+      if (!placed[sheet].has(first)) placed[sheet].set(first, new Set());
+      placed[sheet].get(first).add(text);
+    }
+    let left = this.#limit;
+    for (const [sheet, { source, statements, blocks }] of this.#statements().entries()) {
+      const own = new Set(statements.filter(each => each.kind === 'rule').map(each => each.head[1]));
+      const inner = blocks.filter(each => !own.has(each.span[0]));
+      for (const { block, selector, declarations } of unsupportedIn(source, inner, placed[sheet])) {
+        left -= declarations.length;
+        if (left < 0) throw new LimitError(TOO_MANY);
+        const { conditions, parents } = block;
+        yield { sheet, at: block.span[0], rule: { selector, declarations, conditions, parents } };
+      }
+    }
+  }
+
   #checkLimit() {
     const sets = this.#statements().flatMap(({ statements }) => statements.filter(each => each.kind === 'rule'));
     const count = sets.reduce((sum, each) => sum + each.selectors.length * each.declarations.length, 0);
-    if (count > this.#limit) throw new LimitError('the rules would hold more declarations than the limit');
+    if (count > this.#limit) throw new LimitError(TOO_MANY);
+  }
+
+  /**
+   * Returns the sheet as a text, with a line for each rule and each declaration. The `@import`s of further texts are before all rules,
+   * since they count nowhere else.
+   */
+  toString() {
+    if (this.#grammar === PORT) return call('port_sheet', this.#words()).slice(0, -1);
+    const [first, ...others] = this.#statements();
+    if (!first) return '';
+    const found = others.map(({ source }) => withoutImports(source)), end = frontOf(first);
+    const parts = [first.source.at([0, end]), ...found.flatMap(each => each.imports), first.source.at([end, first.source.data.length])];
+    return [...parts, ...found.map(each => each.rest)].map(prettify).join('');
+  }
+
+  /** Returns what `JSON.stringify` writes of the sheet. */
+  toJSON() {
+    return { rules: this.rules, unsupported: this.unsupported, atRules: this.atRules };
   }
 
   /** The texts as a call takes them, and the limit. */
@@ -160,32 +206,44 @@ export class StyleSheet {
   }
 
   /** Returns for each element, or its node, the indices of the rules that match it, in order. */
-  match(root, { media = 'screen' } = {}) {
+  match(root, options) {
+    const media = mediaOf(options);
     return this.#byElement(root, elements => {
       return this.#grammar === PORT ? this.#matchedByPort(elements) : this.#matched(elements, media);
     });
   }
 
   /** Returns for each element, or its node, the winning declaration of each name, in the order of the cascade. */
-  styles(root, { media = 'screen' } = {}) {
+  styles(root, options) {
+    const media = mediaOf(options);
     return this.#byElement(root, elements => (
       this.#grammar === PORT ? this.#winnersByPort(elements) : this.#winners(elements, media)));
   }
 
   /** Returns for each element, or its node, the winning declaration of the name, or null. */
   style(root, name, options) {
-    const found = new Map();
+    expectText(name);
+    const found = new Map(), wanted = this.#grammar === PORT || name.startsWith('--') ? name : lower(name);
     for (const [element, winners] of this.styles(root, options)) {
-      found.set(element, winners.find(each => each.name === name) ?? null);
+      found.set(element, winners.find(each => each.name === wanted) ?? null);
     }
     return found;
+  }
+
+  /**
+   * Returns the selectors that match no element of any of the pages, in order. Pseudo-elements, states as `:hover`, and the
+   * conditions of group rules are taken as met. A selector that is not supported, or of whose states that cannot be said, is used.
+   */
+  unused(...roots) {
+    if (this.#grammar === PORT) throw new TypeError('a sheet of the modern grammar is expected');
+    return unusedOf(this.#statements(), roots.map(root => Tree.elementsOf(Tree.from(root))), this.#answerLimit);
   }
 
   /** Returns a value for each element of a tree, or for each node. */
   #byElement(root, valuesOf) {
     const tree = Tree.from(root);
     const values = valuesOf(Tree.elementsOf(tree));
-    return new Map(tree.elements.map((each, index) => [tree === root ? each : each.node, values[index]]));
+    return new Map(tree.elements.map((each, index) => [tree === root ? each : each.node ?? each, values[index]]));
   }
 
   #matchedByPort(elements) {
@@ -267,6 +325,31 @@ export class StyleSheet {
   }
 }
 
+/** Returns where what may be before an `@import` ends in a text. */
+function frontOf({ statements }) {
+  let end = 0;
+  for (const { kind, rule, levels, span } of statements) {
+    if (kind !== 'at-rule' || levels.length > 0 || rule.block !== null || !FIRST.has(rule.name)) break;
+    end = span[1];
+  }
+  return end;
+}
+
+/** Returns the `@import`s of a text that are in force, and the text without them. */
+function withoutImports(source) {
+  const lines = new Lines(call('imports', [source.data], { isBytes: true })), imports = [], rest = [];
+  let done = 0;
+  while (lines.areLeft) {
+    const [start, size, , ...lengths] = lines.numbers();
+    for (const length of [lengths[0], lengths[2], lengths[4], lengths[5]]) lines.text(length);
+    lines.endLine();
+    imports.push(source.at([start, start + size]));
+    rest.push(source.at([done, start]));
+    done = start + size;
+  }
+  return { imports, rest: [...rest, source.at([done, source.data.length])].join('') };
+}
+
 /** Returns the numbers of a line, which have a space before each. */
 const numbersIn = line => line.split(' ').slice(1);
 
@@ -292,7 +375,7 @@ const placeOf = (sheet, start) => `${sheet} ${start}`;
 
 /** Returns a rule with the places of its declarations and its block. */
 function placedRule(sheet, start, first, rule) {
-  return { sheet, at: start, start: placeOf(sheet, start), block: placeOf(sheet, first), rule };
+  return { sheet, at: start, first, start: placeOf(sheet, start), block: placeOf(sheet, first), rule };
 }
 
 /** Compares two rules by their specificity, and by where they are. */
@@ -315,7 +398,8 @@ function rulesOf(read, blocks, isKnown) {
     for (const { text, front, specificity, pseudoElement } of selectors) {
       const rule = { selector: front, specificity, declarations, conditions, pseudoElement, parents: [] };
       if (specificity === null) {
-        if (!isKnown(set, block, text)) unsupported.push({ selector: text, declarations, conditions });
+        const other = { selector: text, declarations, conditions, parents: [] };
+        if (!isKnown(set, block, text)) unsupported.push({ sheet, at: start, rule: other });
       } else if (!blocks.has(block)) rules.push(placedRule(sheet, start, start, rule));
     }
   }
@@ -360,6 +444,15 @@ export function skippedByPort(text) {
   return { source, faults };
 }
 
+/** Returns the device or the function of options. */
+function mediaOf(options) {
+  expectOptions(options, ['media']);
+  const media = options?.media ?? 'screen';
+  // What is no device is refused, whatever the sheet asks.
+  if (typeof media !== 'function') deviceOf(media);
+  return media;
+}
+
 /** Returns the rules of a style sheet. */
 export function rules(sheet, options) {
   return new StyleSheet(sheet, options).rules;
@@ -367,5 +460,7 @@ export function rules(sheet, options) {
 
 /** Returns for each element of a tree, or for each node, the declarations that win on it. */
 export function styles(root, sheet, options) {
-  return new StyleSheet(sheet, options).styles(root, options);
+  expectOptions(options, [...SHEET_OPTIONS, 'media']);
+  const { media, ...others } = options ?? {};
+  return new StyleSheet(sheet, others).styles(root, { media });
 }

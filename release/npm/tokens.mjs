@@ -7,7 +7,9 @@ const KINDS = ['whitespace', 'comment', 'ident', 'function', 'at-keyword', 'hash
   'number', 'percentage', 'dimension', 'cdo', 'cdc', 'delim'];
 const MEASURED = new Set(['percentage', 'dimension']), STRINGS = new Set(['string', 'bad-string']);
 const NAMED = new Set(['ident', 'function', 'at-keyword', 'hash', 'id', 'url', 'dimension']);
-const COMBINATORS = new Set(['>', '+', '~']);
+const COMBINATORS = new Set(['>', '+', '~']), OPENING = new Set(['(', '[', '{']), CLOSING = new Set([')', ']', '}']);
+// What may be between two tokens.
+const GAPS = new Set(['whitespace', 'comment']);
 // The kinds of names that are of pseudo-classes and of pseudo-elements: each without parentheses and with them.
 const PSEUDO_CLASSES = [4, 5], PSEUDO_ELEMENTS = [6, 7];
 // How many numbers the library writes of a token, and of a name.
@@ -63,20 +65,34 @@ export function decoded(text, isString) {
 }
 
 /**
- * Returns the names of pseudo-classes and pseudo-elements in a selector, in order: each without escapes and in lower case, and
- * the bytes at which its colons begin and it ends.
+ * Returns the names of pseudo-classes and pseudo-elements in a selector, in order: each without escapes and in lower case, the
+ * bytes at which its colons begin and it ends, and whether `:not()` is around it.
  */
 export function pseudoNames(text) {
   if (!text.includes(':')) return [];
   const [data, ends] = joined([text]), found = [];
   const numbers = call('names', [data, ends], { room: 64 + 2 * data.length, isNumbers: true });
   for (let first = 0; first < numbers.length; first += NAME_WIDTH) {
-    const [kind, start, inside, end] = numbers.slice(first, first + NAME_WIDTH), isElement = PSEUDO_ELEMENTS.includes(kind);
+    const [kind, start, inside, end, , negated] = numbers.slice(first, first + NAME_WIDTH), isElement = PSEUDO_ELEMENTS.includes(kind);
     if (!isElement && !PSEUDO_CLASSES.includes(kind)) continue;
     const written = decode(data.subarray(inside, end));
-    found.push({ name: lower(written.includes('\\') ? decoded(written, false) : written), isElement, start, end });
+    found.push({ name: lower(written.includes('\\') ? decoded(written, false) : written), isElement, start, end, isNegated: negated > 0 });
   }
   return found;
+}
+
+/** Returns the texts of the selectors of a list, without the blanks around each. */
+export function partsOfList(head) {
+  const parts = [[]];
+  let depth = 0;
+  for (const token of tokens(head)) {
+    if (token.kind === 'function' || OPENING.has(token.text)) depth += 1;
+    else if (CLOSING.has(token.text)) depth -= 1;
+    if (token.text === ',' && depth === 0) parts.push([]);
+    else if (parts.at(-1).length || !GAPS.has(token.kind)) parts.at(-1).push(token);
+  }
+  for (const part of parts) while (part.length && GAPS.has(part.at(-1).kind)) part.pop();
+  return parts.map(part => part.map(token => token.text).join(''));
 }
 
 /**

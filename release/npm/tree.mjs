@@ -1,5 +1,7 @@
-// Trees of elements: of a DOM, of parse5, or of a program's own.
-import { NO_LIMIT, TreeError, call, encode, expectText, joined, limited, sizes } from './library.mjs';
+// Trees of elements: of a DOM, of parse5, of domhandler, or of a program's own.
+import { KeptPage, NO_LIMIT, TreeError, askList, call, encode } from './library.mjs';
+import { expectOptions, expectText, joined, limited, sizes } from './library.mjs';
+import { decodedPage, pageOf } from './html.mjs';
 import { lower } from './reading.mjs';
 
 // The grammars: that of browsers, and that of the Rust crate.
@@ -7,9 +9,14 @@ export const MODERN = 'modern';
 export const PORT = 'simplecss';
 // The states of an element that the library numbers, and that of one with a text of its own.
 const STATES = { link: 1, visited: 2, hover: 4, active: 8, focus: 16 };
-const HAS_TEXT = 32, SCOPE = 64;
+const HAS_TEXT = 32;
 // Two more that `:dir(ltr)` and `:dir(rtl)` test, the number of the first state that a tree names, and how many it may name.
 const DIRECTIONS = ['dir(ltr)', 'dir(rtl)'], FIRST_NAMED = 128, MOST_NAMED = 24;
+// The states of elements of HTML that attributes decide, those of them that elements without an attribute are in, too, and a name of
+// an element that is in no more.
+const DECIDED = ['checked', 'disabled', 'enabled', 'required', 'optional', 'read-only', 'read-write', 'placeholder-shown', 'default',
+  'indeterminate', 'open', 'defined', ...DIRECTIONS];
+const OF_ALL = new Set(['defined', ...DIRECTIONS]), OF_NO_HTML = 'svg';
 // How names and values of modern selectors are compared, as the library numbers it among its grammars, and the grammars
 // where no document is read.
 const AS_WRITTEN = 0n, HTML = 1n, QUIRKS = 2n;
@@ -26,10 +33,18 @@ const MOST_KNOWN = 1024;
 const SPACE_OF_SVG = 'http://www.w3.org/2000/svg', SPACE_OF_XML = 'http://www.w3.org/XML/1998/namespace';
 // Kinds of nodes of a DOM.
 const IS_ELEMENT = 1, IS_TEXT = 3, IS_CDATA = 4, IS_DOCUMENT = 9, IS_FRAGMENT = 11;
+// The types of elements of domhandler.
+const ELEMENT_TYPES = new Set(['tag', 'script', 'style']);
 // How many numbers of what wins on an element there is room for at first.
 const ROOM_FOR_ELEMENT = 64;
-// How many lists of selectors have their answers kept.
-const MOST_ANSWERS = 32;
+// The name of a file in place of a page.
+const PAGE_NAME = /^[^{}()@;"'<>\s]{1,4096}\.(?:html?|xhtml|svg|xml)$/i;
+// How many lists of selectors have their answers kept, and for how many sets of prefixes the library keeps the page of a tree.
+const MOST_QUESTIONS = 32, MOST_PAGES = 4;
+// To ask about some elements takes as long as to test so many.
+const OF_QUESTION = 64;
+// What a text has if `:has()` or `of` may be in it, whose lists are tested on all elements.
+const LISTED = /has\(|[^-]of|\\/i;
 
 /** A text is not a selector: `row`, `column` and `reason` say where and why. Columns count characters. */
 export class SelectorError extends Error {
@@ -41,26 +56,35 @@ export class SelectorError extends Error {
   }
 }
 
+// What a text that was read has of itself.
+const READ = Symbol('read');
+
+/** A text of selectors that was read by a grammar: it is taken where a text is. */
+export class ReadText {
+  constructor(source, grammar) {
+    Object.defineProperty(this, READ, { value: { source, grammar } });
+  }
+}
 /** Returns the name of a grammar, if it is one. */
-export function grammarOf({ grammar = MODERN } = {}) {
+export function grammarOf(options) {
+  const { grammar = MODERN } = options ?? {};
   if (grammar !== MODERN && grammar !== PORT) throw new TypeError(`unknown grammar: ${grammar}`);
   return grammar;
 }
 
 /** Returns the prefixes of selectors with their namespaces, if some are declared. */
-function namespacesOf({ namespaces, grammar } = {}) {
+function namespacesOf(options) {
+  const { namespaces, grammar } = options ?? {};
   if (namespaces == null) return null;
   if (typeof namespaces !== 'object') throw new TypeError('namespaces are texts by their prefixes');
   if (grammar === PORT) throw new TypeError('the grammar of the Rust crate has no namespaces');
   return [...textsOf(namespaces)];
 }
 
-/** Returns what a call for a list of selectors writes, which are read with the names of a tree. A list that is refused is an error. */
-export function selected(name, text, grammar, words, options, tree) {
-  const written = call(name, words, options);
-  if (written !== null) return written;
+/** Returns the error of a text that is no list of selectors, where a tree declares names. */
+export function refusedList(text, grammar, tree) {
   const [row, column, ...reason] = (refusal(text, grammar, tree) || '1 1 refused').split(' ');
-  throw new SelectorError(reason.join(' '), Number(row), Number(column));
+  return new SelectorError(reason.join(' '), Number(row), Number(column));
 }
 
 /** Returns the row, the column and the reason of why a text is no list of selectors, where a tree declares names. */
@@ -103,14 +127,15 @@ export class Element {
 
   /** Whether one of the selectors matches it, which is also what `:scope` matches. */
   matches(selectors, options) {
-    return this.#elements.foundSet(selectors, options, this.index).has(this.index);
+    const question = this.#elements.question(selectors, options, this.index);
+    return this.#elements.found(question, this.index, this.index + 1).length > 0;
   }
 
   /** Returns it or its nearest ancestor that one of the selectors matches. `:scope` matches the element itself. */
   closest(selectors, options) {
-    const found = this.#elements.foundSet(selectors, options, this.index);
+    const question = this.#elements.question(selectors, options, this.index);
     let index = this.index;
-    while (index >= 0 && !found.has(index)) index = this.#elements.parents[index];
+    while (index >= 0 && this.#elements.found(question, index, index + 1).length === 0) index = this.#elements.parents[index];
     return this.tree.elements[index] ?? null;
   }
 
@@ -119,8 +144,9 @@ export class Element {
    * `select(':scope > p')` returns its children.
    */
   select(selectors, options) {
-    const end = this.#elements.endOf(this.index), found = this.#elements.foundSet(selectors, options, this.index);
-    return [...found].filter(index => index > this.index && index < end).map(index => this.tree.elements[index]);
+    const question = this.#elements.question(selectors, options, this.index);
+    const found = this.#elements.found(question, this.index + 1, this.#elements.endOf(this.index));
+    return found.map(index => this.tree.elements[index]);
   }
 }
 
@@ -142,11 +168,12 @@ class Elements {
   reading = AS_WRITTEN;
   #texts = [];
   #arrays = new Map();
-  // The arrays for the prefixes that were declared last.
-  #spacedArrays;
-  #answers = new Map();
+  // What the library keeps, by the prefixes that are declared.
+  #pages = new Map();
+  #questions = new Map();
   #ends;
   #children;
+  #states;
 
   add({ name, attributes, parent, states, space, place, node, hasText }) {
     this.names.push(name);
@@ -159,6 +186,18 @@ class Elements {
     if (node) this.nodes.push(node);
     this.#texts.push(hasText);
     return this.names.length - 1;
+  }
+
+  /** Returns the same elements in other states, which are those of each by its own. */
+  inStates(statesOf) {
+    const found = new Elements();
+    found.reading = this.reading;
+    found.spacedAttributes = this.spacedAttributes;
+    this.names.forEach((name, index) => {
+      const [attributes, parent, space] = [this.attributes[index], this.parents[index], this.spaces[index]];
+      found.add({ name, attributes, parent, space, states: statesOf(this.states[index]), hasText: this.#texts[index] });
+    });
+    return found;
   }
 
   childrenOf(index) {
@@ -181,33 +220,70 @@ class Elements {
     return this.#ends[index];
   }
 
-  /** Returns the indices of the elements that one of the selectors matches, in order. */
-  found(selectors, options) {
-    return [...this.foundSet(selectors, options)];
+  /**
+   * Returns the question which elements a list of selectors matches, where `:scope` matches the element at an index, or the root:
+   * its answer for all elements is kept, once they were asked.
+   */
+  question(given, options, scope = -1) {
+    expectOptions(options, ['grammar', 'namespaces']);
+    const { source: selectors, grammar } = given?.[READ] ?? { source: given, grammar: grammarOf(options) };
+    const namespaces = namespacesOf({ ...options, grammar }) ?? [];
+    const question = { selectors, bytes: encode(selectors), grammar, namespaces, scope: -1, tested: 0 };
+    if (scope >= 0 && grammar === MODERN && mayNameScope(selectors)) return { ...question, scope };
+    const key = JSON.stringify([grammar, selectors, namespaces]);
+    if (!this.#questions.has(key)) {
+      if (this.#questions.size >= MOST_QUESTIONS) this.#questions.clear();
+      this.#questions.set(key, question);
+    }
+    return this.#questions.get(key);
   }
 
-  /** Returns the same as a set. If a `scope` is given, `:scope` matches the element at this index. */
-  foundSet(selectors, options, scope) {
-    const grammar = grammarOf(options), namespaces = namespacesOf(options);
-    const bytes = encode(selectors), [number, known] = this.words(grammar);
-    const tree = namespaces ? this.#spaced(namespaces) : known;
-    const isScoped = scope !== undefined && grammar === MODERN && mayNameScope(selectors);
-    if (isScoped || namespaces) {
-      return this.#find(selectors, grammar, [bytes, number, isScoped ? withScope(tree, scope) : tree]);
+  /**
+   * Returns the indices of the elements from one up to another that match, in order. When as many were asked as there are, all are:
+   * then an answer takes no longer than to look.
+   */
+  found(question, start = 0, end = this.names.length) {
+    const count = this.names.length, isOfAll = question.grammar === PORT || LISTED.test(question.selectors);
+    if (!question.found) {
+      question.tested += isOfAll ? count : OF_QUESTION + end - start;
+      if (question.tested < count) return this.#ask(question, start, end);
+      question.found = this.#ask(question, 0, count);
     }
-    const key = `${grammar} ${selectors}`;
-    if (!this.#answers.has(key)) {
-      if (this.#answers.size >= MOST_ANSWERS) this.#answers.clear();
-      this.#answers.set(key, this.#find(selectors, grammar, [bytes, number, tree]));
-    }
-    return this.#answers.get(key);
+    const { found } = question;
+    return found.slice(placeIn(found, start), placeIn(found, end));
   }
 
-  #find(selectors, grammar, words) {
-    const options = { room: 1024 + 8 * this.names.length, hasTree: true };
-    const written = selected('select', selectors, grammar, [...words, NO_LIMIT], options, words.at(-1));
-    const numbers = written.split('\n').slice(0, -1);
-    return new Set(numbers.map(number => number - 1));
+  /** Returns the indices of the elements from one up to another that match, and by the grammar of the Rust crate of all. */
+  #ask(question, start, end) {
+    const { selectors, bytes, grammar, namespaces, scope } = question;
+    const found = grammar === PORT ? this.#foundByPort(bytes) : this.#page(namespaces).select(bytes, scope, start, end);
+    if (found) return found;
+    // They are read with the names that the tree declares.
+    throw refusedList(selectors, grammar, treeOf([], [], [], namedStates(this.#allStates()), this.#numbered(namespaces)));
+  }
+
+  /** Returns the indices of the elements that selectors of the Rust crate match, or null where they are refused. */
+  #foundByPort(bytes) {
+    const room = 1024 + 8 * this.names.length;
+    const written = call('select', [bytes, ...this.words(PORT), NO_LIMIT], { room, hasTree: true });
+    return written === null ? null : written.split('\n').slice(0, -1).map(number => number - 1);
+  }
+
+  /** Returns the page that the library keeps, where prefixes of these namespaces are declared. */
+  #page(namespaces) {
+    const key = JSON.stringify(namespaces);
+    if (!this.#pages.has(key) || this.#pages.get(key).isLeft) {
+      if (this.#pages.size >= MOST_PAGES) this.close();
+      const tree = namespaces.length > 0 ? this.#makeArrays(MODERN, namespaces) : this.arrays(MODERN);
+      this.#pages.set(key, new KeptPage(tree, this.reading));
+    }
+    return this.#pages.get(key);
+  }
+
+  /** Lets the pages go that the library keeps. */
+  close() {
+    for (const page of this.#pages.values()) page.close();
+    this.#pages.clear();
   }
 
   /**
@@ -247,13 +323,6 @@ class Elements {
     return this.#arrays.get(grammar);
   }
 
-  /** Returns the same of the modern grammar, where prefixes of these namespaces are declared. */
-  #spaced(namespaces) {
-    const key = JSON.stringify(namespaces);
-    if (this.#spacedArrays?.key !== key) this.#spacedArrays = { key, tree: this.#makeArrays(MODERN, namespaces) };
-    return this.#spacedArrays.tree;
-  }
-
   /** The namespaces of elements and attributes that the library may know in sheets, in the order of their numbers from 1 on. */
   get namespaces() {
     return [...this.#spaceNumbers().keys()].slice(1, 1 + MOST_KNOWN);
@@ -267,13 +336,13 @@ class Elements {
   }
 
   #makeArrays(grammar, namespaces = []) {
-    const spaces = this.#spaceNumbers();
-    const shapes = [], strings = [], named = this.#namedStates(), numbers = { ...STATES };
+    const spaces = this.#spaceNumbers(), every = this.#allStates();
+    const shapes = [], strings = [], named = namedStates(every), numbers = { ...STATES };
     named.forEach((state, at) => { numbers[state] = FIRST_NAMED * 2 ** at; });
     this.names.forEach((name, index) => {
       const plain = grammar === MODERN && this.spacedAttributes.get(index)?.plain;
       const attributes = [...this.#compared(plain || this.attributes[index], grammar)];
-      const states = this.states[index].reduce((sum, state) => sum + numbers[state], this.#texts[index] ? HAS_TEXT : 0);
+      const states = every[index].reduce((sum, state) => sum + numbers[state], this.#texts[index] ? HAS_TEXT : 0);
       shapes.push(this.depths[index], attributes.length, states, spaces.get(this.spaces[index]));
       strings.push(this.#comparedName(name));
       for (const [key, value] of attributes) strings.push(key, value);
@@ -283,20 +352,47 @@ class Elements {
       places.push(...spaced.flatMap(([space]) => [index, spaces.get(space)]));
       strings.push(...spaced.flatMap(([, name, value]) => [this.#comparedName(name), value]));
     }
-    // One that no element is in has a number of none.
-    const prefixes = namespaces.map(([prefix, space]) => [prefix, spaces.get(space) ?? spaces.size + 1]);
-    return treeOf(shapes, strings, places, named, prefixes);
+    return treeOf(shapes, strings, places, named, this.#numbered(namespaces));
+  }
+
+  /** Returns prefixes with the numbers of their namespaces. One that no element is in has a number of none. */
+  #numbered(namespaces) {
+    const spaces = this.#spaceNumbers();
+    return namespaces.map(([prefix, space]) => [prefix, spaces.get(space) ?? spaces.size + 1]);
   }
 
   #comparedName(name) {
     return this.reading === AS_WRITTEN ? name : lower(name);
   }
 
-  /** Returns the names of states that elements are in and the library does not number. */
-  #namedStates() {
-    const named = [...new Set(this.states.flat())].filter(name => !Object.hasOwn(STATES, name));
-    if (named.length > MOST_NAMED) throw new RangeError(`more than ${MOST_NAMED} states: ${named[MOST_NAMED]}`);
-    return named;
+  /** Returns the states of each element, with those that attributes decide of elements of HTML in XML. */
+  #allStates() {
+    const isXHTML = this.reading === AS_WRITTEN && this.spaces.includes(SPACE_OF_HTML);
+    if (!this.#states) {
+      const decided = isXHTML ? this.#decidedStates() : [];
+      this.#states = this.states.map((own, index) => [...new Set([...own, ...decided[index] ?? []])]);
+    }
+    return this.#states;
+  }
+
+  /**
+   * Returns the states of each element that attributes decide, where those in the namespace of HTML have its names. Any other element
+   * is in a state that all elements of HTML share, alone.
+   */
+  #decidedStates() {
+    const shapes = [], strings = [], isHTML = this.spaces.map(space => space === SPACE_OF_HTML), caseless = CASELESS.get(HTML);
+    this.names.forEach((name, index) => {
+      const own = this.spacedAttributes.get(index)?.plain ?? this.attributes[index], attributes = isHTML[index] ? [...own] : [];
+      shapes.push(this.depths[index], attributes.length, this.#texts[index] ? HAS_TEXT : 0, 1);
+      strings.push(isHTML[index] ? name : OF_NO_HTML);
+      for (const [key, value] of attributes) strings.push(key, caseless.has(key) ? lower(value) : value);
+    });
+    const words = [...joined(DECIDED.map(each => `:${each}`)), HTML, treeOf(shapes, strings)];
+    const written = call('match_selectors', words, { room: 1024 + 32 * this.names.length, most: NO_LIMIT, hasTree: true });
+    return written.split('\n').slice(0, -1).map((line, index) => {
+      const found = line.slice(line.indexOf(':') + 1).split(' ').filter(Boolean).map(number => DECIDED[number - 1]);
+      return isHTML[index] ? found : found.filter(each => OF_ALL.has(each));
+    });
   }
 
   /** Returns attributes as they are compared. Of two that have one name then, the first. */
@@ -313,16 +409,27 @@ class Elements {
   }
 }
 
+/** Returns the names of states that elements are in and the library does not number. */
+function namedStates(states) {
+  const named = [...new Set(states.flat())].filter(name => !Object.hasOwn(STATES, name));
+  if (named.length > MOST_NAMED) throw new RangeError(`more than ${MOST_NAMED} states: ${named[MOST_NAMED]}`);
+  return named;
+}
+
 /** Whether a text may have `:scope` in it, or `&`, which denotes it outside of style sheets. */
 function mayNameScope(selectors) {
   return ['\\', '&'].some(each => selectors.includes(each)) || lower(selectors).includes('scope');
 }
 
-/** Returns the arrays of the same tree in which `:scope` matches the element at an index. */
-function withScope({ arrays: [elements, ...others] }, index) {
-  const scoped = Object.assign(elements.slice(), { count: elements.count });
-  scoped[4 * index + 2] += SCOPE;
-  return { arrays: [scoped, ...others] };
+/** Returns how many of indices in order are before one. */
+function placeIn(indices, index) {
+  let low = 0, high = indices.length;
+  while (low < high) {
+    const middle = low + high >> 1;
+    if (indices[middle] < index) low = middle + 1;
+    else high = middle;
+  }
+  return low;
 }
 
 /** Elements in the order of the document, which selectors are matched against. */
@@ -351,10 +458,36 @@ export class Tree {
     }
   }
 
-  /** Returns the tree of a document, a fragment or an element of a DOM or of parse5, or the tree itself. */
+  /**
+   * Returns the tree of a document, a fragment or an element of a DOM, of parse5 or of domhandler, or of a page in HTML as a text, or
+   * the tree itself.
+   */
   static from(root) {
     if (root instanceof Tree) return root;
+    if (typeof root === 'string' && PAGE_NAME.test(root)) throw new TypeError(`'${root}' is the name of a page, not its text`);
+    if (typeof root === 'string') return Tree.fromHTML(root);
+    if (isOfDomhandler(root)) return Tree.fromDomhandler(root);
     return typeof root?.nodeType === 'number' ? Tree.fromDOM(root) : Tree.fromParse5(root);
+  }
+
+  /**
+   * Reads a page in HTML, as browsers do without scripts; or with `isPart` the content of a `body`. What is in a template is left out.
+   * A page in bytes is in the encoding that it names, or in that of the label `encoding`, which a server names.
+   */
+  static fromHTML(given, options) {
+    expectOptions(options, ['isPart', 'encoding']);
+    const isText = !(given instanceof Uint8Array), label = options?.encoding;
+    if (isText) expectText(given);
+    if (isText && label !== undefined) throw new TypeError('a text has no encoding: pass the bytes');
+    const text = isText ? given : decodedPage(given, label);
+    const tree = new Tree(), all = tree.#elements, page = pageOf(text, options?.isPart);
+    all.reading = page.isQuirky ? QUIRKS : HTML;
+    for (const { spaced, ...each } of page.elements) {
+      const index = all.add({ ...each, states: isLink(each.name, each.space, each.attributes) ? ['link'] : [] });
+      const found = spacedAttributes(spaced, HTML);
+      if (found) all.spacedAttributes.set(index, found);
+    }
+    return tree;
   }
 
   /** Takes the elements of a DOM: of a document, a fragment, or an element. */
@@ -375,7 +508,7 @@ export class Tree {
 
   /** Takes the elements that parse5 has read: of a document, a fragment, or an element. */
   static fromParse5(root) {
-    if (!Array.isArray(root?.childNodes)) throw new TypeError('a node of a DOM or of parse5, or a tree, is expected');
+    if (!Array.isArray(root?.childNodes)) throw new TypeError('a node of a DOM, of parse5 or of domhandler, a page as a text, or a tree is expected');
     const reading = topOf(root).mode === 'quirks' ? QUIRKS : HTML;
     return Tree.#taken(root, reading, {
       isElement: node => node.tagName !== undefined,
@@ -387,20 +520,44 @@ export class Tree {
     });
   }
 
+  /** Takes the elements that domhandler has of what htmlparser2 or parse5 read: of a document or an element, as cheerio has them. With
+   * the declaration of XML before it, a document is XML. */
+  static fromDomhandler(root) {
+    if (!isOfDomhandler(root)) throw new TypeError('a node of domhandler is expected');
+    const { children: nodes = [], 'x-mode': mode } = topOf(root), isDirective = name => ({ type, name: own }) => (
+      type === 'directive' && lower(own) === name);
+    const isXML = mode === undefined && nodes.some(isDirective('?xml'));
+    const hasDoctype = mode === undefined ? nodes.some(isDirective('!doctype')) : mode !== 'quirks';
+    return Tree.#taken(root, isXML ? AS_WRITTEN : hasDoctype ? HTML : QUIRKS, {
+      isElement: ({ type }) => ELEMENT_TYPES.has(type),
+      isText: ({ type, data, children }) => (type === 'cdata' ? children.some(each => each.data !== '') : type === 'text' && data !== ''),
+      nameOf: node => (isXML ? node.name.slice(node.name.indexOf(':') + 1) : node.name),
+      attributesOf: node => Object.entries(node.attribs),
+      spacedOf: node => Object.entries(node.attribs).map(([name, value]) => (
+        [node['x-attribsNamespace']?.[name], name.slice(name.indexOf(':') + 1), value])),
+      spaceOf: node => node.namespace,
+      // What a template has is in no document of HTML.
+      childrenOf: node => (!isXML && node.name === 'template' ? [] : node.children),
+      placeOf: ({ sourceCodeLocation: place }) => place && { row: place.startLine, column: place.startCol },
+    });
+  }
+
   /** Takes the elements of nodes. */
-  static #taken(root, reading, { isElement, isText, nameOf, attributesOf, spacedOf, placeOf }) {
+  static #taken(root, reading, {
+    isElement, isText, nameOf, attributesOf, spacedOf, placeOf, spaceOf = node => node.namespaceURI, childrenOf = node => node.childNodes,
+  }) {
     const tree = new Tree(), elements = tree.#elements;
     elements.reading = reading;
     const waiting = [[root, -1]];
     while (waiting.length > 0) {
       const [node, parent] = waiting.pop();
-      const children = Array.from(node.childNodes);
+      const children = Array.from(childrenOf(node));
       let index = -1;
       if (isElement(node)) {
         const name = nameOf(node), attributes = new Map(attributesOf(node));
-        const states = isLink(name, node.namespaceURI, attributes) ? ['link'] : [];
+        const space = spaceOf(node), states = isLink(name, space, attributes) ? ['link'] : [];
         index = elements.add({
-          name, attributes, parent, states, space: node.namespaceURI, place: placeOf(node), node,
+          name, attributes, parent, states, space, place: placeOf(node), node,
           hasText: children.some(isText),
         });
         const spaced = spacedAttributes(spacedOf(node), reading);
@@ -429,7 +586,7 @@ export class Tree {
 
   /** Returns the elements that one of the selectors matches, in order. */
   select(selectors, options) {
-    return this.#elements.found(selectors, options).map(index => this.elements[index]);
+    return this.#elements.found(this.#elements.question(selectors, options)).map(index => this.elements[index]);
   }
 
   /** Returns the first element that one of the selectors matches, or null. */
@@ -437,11 +594,18 @@ export class Tree {
     return this.select(selectors, options)[0] ?? null;
   }
 
+  /** Lets go what the library keeps of it before it is unreachable. It may still be asked. */
+  close() {
+    this.#elements.close();
+  }
+
   /** Returns the elements as the other modules use them. */
   static elementsOf(tree) {
     return tree.#elements;
   }
 }
+// `using tree = Tree.from(document)` closes it.
+if (Symbol.dispose) Tree.prototype[Symbol.dispose] = Tree.prototype.close;
 
 /** Returns texts by their names: attributes, or namespaces. */
 function textsOf(texts) {
@@ -464,7 +628,7 @@ function statesOf(names) {
 function isState(name) {
   if (Object.hasOwn(STATES, name) || DIRECTIONS.includes(name)) return true;
   const isName = [...lower(name)].every(each => each === '-' || each >= 'a' && each <= 'z');
-  return isName && name.startsWith('--') || isName && call('list', [encode(`:${name}`), NUMBERS[MODERN]], { isNumbers: true }) !== null;
+  return isName && name.startsWith('--') || isName && askList(encode(`:${name}`), NUMBERS[MODERN], () => true) !== null;
 }
 
 /** Returns attributes by local name. One without a namespace comes before one that has one. */
@@ -493,8 +657,13 @@ function isLink(name, space, attributes) {
 /** Returns the node without a parent that a node is in. */
 function topOf(node) {
   let top = node;
-  while (top.parentNode) top = top.parentNode;
+  while (top.parentNode ?? top.parent) top = top.parentNode ?? top.parent;
   return top;
+}
+
+/** Whether a value is a document or an element of domhandler. */
+function isOfDomhandler(node) {
+  return Array.isArray(node?.children) && (node.type === 'root' || ELEMENT_TYPES.has(node.type) && typeof node.attribs === 'object');
 }
 
 /** Returns the element of a tree that a node is, in the tree of all that the node is in. */
@@ -505,20 +674,37 @@ function elementOf(node) {
   return found;
 }
 
-/** Returns the elements of a tree or a document, or within an element, that one of the selectors matches, in order. */
+/** Returns what is asked of an element of a tree that is made for it alone, or of one that is there. */
+function askedOf(node, ask) {
+  const element = elementOf(node);
+  try {
+    return ask(element);
+  } finally {
+    if (element !== node) element.tree.close();
+  }
+}
+
+/** Returns the elements of a tree, a document or a page as a text, or within an element, that one of the selectors matches, in order. */
 export function select(root, selectors, options) {
   if (root instanceof Tree || root instanceof Element) return root.select(selectors, options);
-  const isElement = root?.tagName !== undefined;
-  return (isElement ? elementOf(root) : Tree.from(root)).select(selectors, options).map(each => each.node);
+  const isElement = root?.tagName !== undefined || ELEMENT_TYPES.has(root?.type) && isOfDomhandler(root);
+  if (isElement) return askedOf(root, element => element.select(selectors, options).map(each => each.node));
+  const tree = Tree.from(root);
+  if (typeof root === 'string') return tree.select(selectors, options);
+  try {
+    return tree.select(selectors, options).map(each => each.node);
+  } finally {
+    tree.close();
+  }
 }
 
 /** Whether one of the selectors matches an element. */
 export function matches(element, selectors, options) {
-  return elementOf(element).matches(selectors, options);
+  return askedOf(element, each => each.matches(selectors, options));
 }
 
 /** Returns the element or its nearest ancestor that one of the selectors matches. */
 export function closest(element, selectors, options) {
-  const found = elementOf(element).closest(selectors, options);
+  const found = askedOf(element, each => each.closest(selectors, options));
   return element instanceof Element ? found : found?.node ?? null;
 }

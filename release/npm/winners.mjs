@@ -1,18 +1,22 @@
 // The declarations that win on the elements of a tree, as the library finds them.
 import { holds } from './device.mjs';
 import { call, decode, encode, joined, joinedBytes, limited, mostWritten, sizes } from './library.mjs';
-import { conditionsOf, declared } from './reading.mjs';
+import { ENDS, edgesOf } from './nested.mjs';
+import { declared } from './reading.mjs';
 import { SPACE_OF_HTML } from './tree.mjs';
 
 // How many numbers the library writes of a rule before those of its declarations, of each of these, and of one that wins.
 const OF_RULE = 9, OF_DECLARATION = 6, OF_WINNER = 2;
 
-/** Yields the group rules of a sheet that hold. */
-function* held({ statements, blocks }, applies) {
-  const places = [...statements.map(({ levels }) => conditionsOf(levels)), ...blocks.map(({ conditions }) => conditions)];
-  for (const conditions of places) {
-    const first = conditions.findIndex(each => !applies(each));
-    yield* first < 0 ? conditions : conditions.slice(0, first);
+/** Yields the group rules of a sheet that hold, each of those in no other that does not. */
+function* held({ source }, applies) {
+  // Whether what is in each rule that is open applies.
+  const around = [true];
+  for (const { kind, condition } of source.data.includes(64) ? edgesOf(source) : []) {
+    const isAsked = condition !== undefined && around.at(-1);
+    if (kind === ENDS) around.pop();
+    else around.push(isAsked ? applies(condition) : around.at(-1));
+    if (isAsked && around.at(-1)) yield condition;
   }
 }
 

@@ -1,12 +1,9 @@
-//! Modern CSS in a reader of SVG: which declarations of some properties win on each element, by a walk with
-//! the rules of the document's `style` elements, and then by the element's `style` attribute.
+//! Modern CSS in a reader of SVG: which declarations of some properties win on each element, of the rules of
+//! the document's `style` elements and of the element's `style` attribute. The elements are those of roxmltree.
 //!
 //!     cargo run --features modern --example modern < picture.svg
 
-use simplecss::modern::{declarations, is_in_range};
-use simplecss::modern::{
-    Declaration, Declarations, Element, Item, Keyed, NamespacedAttribute, Rule, Sheet,
-};
+use simplecss::modern::{is_in_range, Element, Keyed, NamespacedAttribute, Options, Page, Sheet};
 use std::collections::HashMap;
 use std::io::Read;
 
@@ -161,53 +158,35 @@ fn keep<'a>(document: &'a roxmltree::Document) -> Vec<Kept<'a>> {
     kept
 }
 
-/// Whether a group rule holds for a drawing on a screen.
-fn holds(name: &str, prelude: &str) -> bool {
-    let is_media = name.eq_ignore_ascii_case("media");
-    is_media && ["", "all", "screen"].iter().any(|it| prelude.eq_ignore_ascii_case(it))
-}
-
-/// Replaces the winners by the declarations that win over them.
-fn cascade<'t>(winners: &mut [Option<Declaration<'t>>], declarations: Declarations<'t>) {
-    for part in declarations {
-        if let Item::Declaration(new) = part.item {
-            let is_its = |name: &&str| name.eq_ignore_ascii_case(new.name);
-            if let Some(number) = PROPERTIES.iter().position(is_its) {
-                let is_kept = matches!(winners[number], Some(it) if it.important && !new.important);
-                winners[number] = if is_kept { winners[number] } else { Some(new) };
-            }
-        }
+/// Returns the elements as a page.
+fn page<'a, 'input>(document: &'a roxmltree::Document<'input>, kept: &'a [Kept<'a>]) -> Page<XmlNode<'a, 'input>> {
+    let (mut page, mut indices) = (Page::new(), vec![0; kept.len()]);
+    for node in document.descendants().filter(|it| it.is_element()) {
+        let parent = node.parent_element().map(|it| indices[it.id().get_usize()]);
+        indices[node.id().get_usize()] = page.push(parent, XmlNode { node, kept }).unwrap();
     }
+    page
 }
 
 fn main() -> Result<(), Box<dyn std::error::Error>> {
     let mut text = String::new();
     std::io::stdin().read_to_string(&mut text)?;
     let document = roxmltree::Document::parse(&text)?;
-    let styles = document.descendants().filter(|it| it.has_tag_name("style"));
-    let styles: Vec<&str> = styles.filter_map(|it| it.text()).collect();
-    let styles = styles.join("\n");
-    let sheet = Sheet::read_limited(&styles, 1_000_000, holds)?;
-    let rules: Vec<Rule> = sheet.rules().collect();
-    let (mut walk, mut open, kept) = (sheet.walk(), Vec::new(), keep(&document));
-    for node in document.descendants().filter(|it| it.is_element()) {
-        while open.last().copied() != node.parent_element() {
-            open.pop();
-            walk.leave();
-        }
-        let element = XmlNode { node, kept: &kept };
-        let mut winners = [None; PROPERTIES.len()];
-        for number in walk.matching(&element) {
-            if rules[*number].pseudo_element().is_none() {
-                cascade(&mut winners, rules[*number].declarations());
-            }
-        }
-        walk.enter(&element);
-        open.push(node);
-        cascade(&mut winners, declarations(node.attribute("style").unwrap_or("")));
+    let sources = document.descendants().filter(|it| it.has_tag_name("style"));
+    let sources: Vec<&str> = sources.filter_map(|it| it.text()).collect();
+    let sources = sources.join("\n");
+    let sheet = Sheet::parse(&sources, &Options { properties: &PROPERTIES, ..Options::default() })?;
+    let kept = keep(&document);
+    let page = page(&document, &kept);
+    let mut styles = page.styles(&sheet, 10_000_000)?;
+    for index in 0..page.len() {
+        let node = page.element(index).unwrap().node;
         print!("{}", node.tag_name().name());
-        for (name, winner) in PROPERTIES.iter().zip(&winners).filter_map(|(name, it)| Some((name, it.as_ref()?))) {
-            print!(" {name}={:?}", winner.value);
+        for name in PROPERTIES {
+            let own = node.attribute("style").unwrap_or("");
+            if let Some(winner) = styles.style(index, own, name) {
+                print!(" {name}={:?}", winner.declaration.value);
+            }
         }
         println!();
     }

@@ -1,8 +1,8 @@
-//! Modern CSS: style sheets by CSS Syntax 3, and selectors of Level 3 with `:is()`, `:where()` and
-//! `:not()` of Level 4.
+//! Modern CSS: style sheets by CSS Syntax 3 with nested rules, `@layer`, `@media` and `@supports`, and selectors of
+//! Level 3 with `:is()`, `:where()`, `:not()`, `:has()` and `:nth-child(2 of .a)` of Level 4.
 //!
 //! ```
-//! use simplecss::modern::{Document, Sheet};
+//! use simplecss::modern::{Document, Options, Sheet};
 //! use simplecss::tree::Tree;
 //!
 //! let mut tree = Tree::new();
@@ -10,46 +10,61 @@
 //! for _ in 0..3 {
 //!     tree.push(Some(list), "li").unwrap();
 //! }
-//! let document = Document::new(&tree);
+//! let mut document = Document::new(&tree);
 //!
-//! let text = "@media screen { li:nth-child(odd) { color: red } } li { color: blue }";
-//! let sheet = Sheet::read(text, |name, prelude| name == "media" && prelude == "screen").unwrap();
-//! let color = |index| sheet.winning(&document.node(index).unwrap(), "color").unwrap().value;
+//! let text = "@media screen { li:nth-child(odd) { color: red } } ul:has(li) { li { color: blue } }";
+//! let sheet = Sheet::parse(text, &Options::default()).unwrap();
+//! let mut styles = document.styles(&sheet, 1_000_000).unwrap();
+//! let mut color = |index| styles.style(index, "", "color").unwrap().declaration.value;
 //! assert_eq!([color(1), color(2), color(3)], ["red", "blue", "red"]);
 //! ```
 //!
 //! What is read is `Send` and `Sync`:
 //!
 //! ```
-//! use simplecss::modern::{Declaration, Document, Index, Rule, Selector, Sheet, Styles, Walk, Winner};
+//! use simplecss::modern::{Declaration, Document, HtmlSheet, Index, Page, PageStyles, Rule, Selector, Sheet, Styles};
+//! use simplecss::modern::{Walk, Winner};
 //!
 //! fn is_shared<T: Send + Sync>() {}
 //! is_shared::<(Sheet, Rule, Index, Walk, Selector, Declaration, Document, Styles, Winner)>();
+//! is_shared::<(HtmlSheet, Page<()>, PageStyles<()>)>();
 //! is_shared::<(simplecss::StyleSheet, simplecss::tree::Tree)>();
 //! ```
 //!
-//! Elements are of a type of your own, which implements [`Element`], or those of a [`Document`]. A selector
-//! that is valid and not supported, such as `a:has(b)`, matches nothing. Nested rules match the elements of a
-//! [`Document`] that is marked ([`Document::mark`]).
+//! Elements are of a type of your own, which implements [`Element`], or those of a [`Document`]. An element knows
+//! its ancestors and its earlier siblings. `:has()`, a list after `An+B` and `&` in a nested rule ask about others, so
+//! a whole page answers them: a [`Document`], or a [`Page`] of your own elements. Where a single element is asked, a
+//! selector with one of them is [`NeedsPage`].
+use crate::erased::css_selectors::{Condition, Part, Simple};
 use crate::erased::{
     css_cascade, css_index, css_matching, css_selectors, css_sheet, css_styles, css_syntax, css_tree,
 };
+use crate::erased::css_selectors::Matching as _;
+use crate::erased::css_tree::html::{html_marked, html_selector};
 use crate::rattle_std::alloc::Global;
 use crate::{done, tree::Tree, within, TextPos};
 use alloc::string::{String, ToString};
 use alloc::vec::Vec;
 use core::fmt;
 
+pub mod clean;
+mod conditions;
+pub mod html;
+mod lint;
+mod page;
+
 pub use crate::erased::css_index::Keyed;
-pub use crate::erased::css_selectors::{
-    Element, Key, NamespacedAttribute, Names, Nesting, Prefix, Specificity, NO_NAMES,
-};
+pub use crate::erased::css_selectors::{Element, Key, NamespacedAttribute, Names, Prefix, Specificity, NO_NAMES};
 pub use crate::erased::css_styles::{Own, Source, Winner};
 pub use crate::erased::css_syntax::{
     AtRule, Block, Declaration, Declarations, Fault, Item, ListPart, Prelude, Quality,
 };
+pub use crate::erased::css_tree::html::HtmlMode;
 pub use crate::erased::css_tree::languages::is_in_range;
 pub use crate::erased::css_tree::NumberedNode as Node;
+pub use conditions::{Contrast, Device, Display, Gamut, Medium, Options, Pointer, Scripting, Update};
+pub use lint::{lint, lint_style, takes_value, Edit, Finding};
+pub use page::{Page, PageStyles};
 
 /// Why a text is not a list of selectors, and where.
 #[derive(Clone, Debug, PartialEq)]
@@ -81,23 +96,120 @@ impl fmt::Display for SelectorError {
 
 impl crate::rattle_std::error::Error for SelectorError {}
 
+/// The selector asks more than a single element can answer. It, or one of the rules, has `:has()`, a list after
+/// `An+B`, or an `&` in a nested rule. A [`Page`] or a [`Document`] answers.
+#[derive(Clone, Copy, Debug, PartialEq, Eq)]
+pub struct NeedsPage;
+
+impl fmt::Display for NeedsPage {
+    fn fmt(&self, f: &mut fmt::Formatter<'_>) -> fmt::Result {
+        f.write_str("`:has()`, a list after `An+B` and `&` in nested rules are answered on a whole page")
+    }
+}
+
+impl crate::rattle_std::error::Error for NeedsPage {}
+
+/// Whether a compound selector asks about a whole page.
+fn asks_page(part: &Part<'_>) -> bool {
+    part.conditions.iter().any(|it| match it {
+        Condition::Simple(Simple::Nesting(list)) => list.number != 0,
+        Condition::Simple(_) => false,
+        Condition::Not(all) | Condition::Is(all) | Condition::Where(all) => {
+            all.iter().any(|it| it.parts.iter().any(asks_page))
+        }
+        Condition::Tested(..) => true,
+    })
+}
+
+/// Whether a selector asks about a whole page.
+fn needs_page(selector: &css_selectors::Selector<'_>) -> bool {
+    selector.parts().iter().any(asks_page)
+}
+
+/// A selector that asks lists by their numbers, and these lists.
+struct Asking<'a> {
+    selector: css_selectors::Selector<'a>,
+    lists: Lists<'a>,
+}
+
+/// Lists that are asked: as they are numbered, or as a document reads these.
+enum Lists<'a> {
+    Numbered(css_selectors::Numbering<'a>),
+    Read(crate::rattle_std::vec::Vec<css_selectors::MarkedList<'a>>),
+}
+
+impl<'a> Lists<'a> {
+    fn as_slice(&self) -> &[css_selectors::MarkedList<'a>] {
+        match self {
+            Lists::Numbered(numbering) => numbering.lists(),
+            Lists::Read(lists) => lists.as_slice(),
+        }
+    }
+}
+
+/// Returns lists as an HTML document reads them.
+fn html_lists<'s>(
+    mode: HtmlMode,
+    lists: &'s [css_selectors::MarkedList<'_>],
+) -> crate::rattle_std::vec::Vec<css_selectors::MarkedList<'s>> {
+    crate::rattle_std::vec::Vec(lists.iter().map(|it| done(html_marked(Global, mode, it))).collect())
+}
+
+impl<'a> Asking<'a> {
+    fn new(selector: css_selectors::Selector<'a>) -> Self {
+        let mut numbering = css_selectors::Numbering::new(Global);
+        Asking { selector: done(numbering.number(Global, selector)), lists: Lists::Numbered(numbering) }
+    }
+
+    fn in_html(&self, mode: HtmlMode) -> Asking<'_> {
+        Asking {
+            selector: done(html_selector(Global, mode, &self.selector)),
+            lists: Lists::Read(html_lists(mode, self.lists.as_slice())),
+        }
+    }
+}
+
 /// A selector.
-pub struct Selector<'a>(css_selectors::Selector<'a>);
+pub struct Selector<'a> {
+    selector: css_selectors::Selector<'a>,
+    /// The same for a page, if it needs one.
+    asking: Option<Asking<'a>>,
+}
 
 impl<'a> Selector<'a> {
     /// Parses one selector.
     pub fn parse(text: &'a str) -> Result<Self, SelectorError> {
-        css_selectors::Selector::parse(Global, within(text))
-            .map(Selector)
-            .map_err(|refusal| SelectorError::new(text, refusal))
+        let read = || css_selectors::Selector::parse(Global, within(text)).map(|it| alloc::vec![it]);
+        let mut all = Selector::read_twice(text, read)?;
+        Ok(all.remove(0))
+    }
+
+    /// Returns selectors as they are read. What needs a page is read again, with numbers for its lists.
+    fn read_twice(
+        text: &'a str,
+        read: impl Fn() -> Result<Vec<css_selectors::Selector<'a>>, css_selectors::Refusal<'a>>,
+    ) -> Result<Vec<Self>, SelectorError> {
+        let read = || read().map_err(|refusal| SelectorError::new(text, refusal));
+        let all = read()?;
+        let mut again = if all.iter().any(needs_page) { read()? } else { Vec::new() }.into_iter();
+        let paired = all.into_iter().map(|selector| {
+            let second = again.next().filter(needs_page);
+            Selector { selector, asking: second.map(Asking::new) }
+        });
+        Ok(paired.collect())
+    }
+
+    /// Returns the selector for a page, with the lists that it asks.
+    fn asking(&self) -> (&css_selectors::Selector<'a>, &[css_selectors::MarkedList<'a>]) {
+        match &self.asking {
+            Some(it) => (&it.selector, it.lists.as_slice()),
+            None => (&self.selector, &[]),
+        }
     }
 
     /// Parses selectors with commas between them. Fails if one of them is not a selector.
     pub fn parse_list(text: &'a str) -> Result<Vec<Self>, SelectorError> {
-        match css_selectors::Selector::parse_list(Global, within(text)) {
-            Ok(selectors) => Ok(selectors.0.into_iter().map(Selector).collect()),
-            Err(refusal) => Err(SelectorError::new(text, refusal)),
-        }
+        Selector::parse_list_in(text, &NO_NAMES)
     }
 
     /// Parses selectors as `parse_list` does, where these names are declared. Elements are asked for
@@ -114,60 +226,98 @@ impl<'a> Selector<'a> {
     /// let names = Names { prefixes: &[Prefix { name: "svg", number: 1 }], ..NO_NAMES };
     /// let selectors = Selector::parse_list_in("svg|a", &names).unwrap();
     /// let matches = |index| selectors[0].matches(&document.node(index).unwrap());
-    /// assert_eq!([matches(first), matches(second)], [false, true]);
+    /// assert_eq!([matches(first), matches(second)], [Ok(false), Ok(true)]);
     /// assert!(Selector::parse_list("svg|a").is_err());
     /// ```
     pub fn parse_list_in(text: &'a str, names: &Names<'_>) -> Result<Vec<Self>, SelectorError> {
-        match css_selectors::Selector::parse_list_in(Global, within(text), names) {
-            Ok(selectors) => Ok(selectors.0.into_iter().map(Selector).collect()),
-            Err(refusal) => Err(SelectorError::new(text, refusal)),
-        }
+        let read = || css_selectors::Selector::parse_list_in(Global, within(text), names).map(|it| it.0);
+        Selector::read_twice(text, read)
     }
 
-    /// Parses the selectors of a nested rule. `&` stands for `list`, that of the rule around it, of which
-    /// elements are asked by its number: [`Element::is_in_list`].
+    /// Returns the selector as an HTML document in this mode reads it: names of elements and attributes match in any
+    /// case, as do the values that the standard lists, such as those of `type`, and in quirks mode ids and classes.
+    /// In the tree, all of these are in lower case.
     ///
     /// ```
-    /// use simplecss::modern::{Nesting, Selector, Specificity};
+    /// use simplecss::modern::{Document, HtmlMode, Selector};
+    /// use simplecss::tree::Tree;
     ///
-    /// let list = Nesting { number: 1, specificity: Specificity { ids: 0, classes: 1, names: 0 } };
-    /// let selectors = Selector::parse_nested_list(list, "> b, c").unwrap();
-    /// let printed: Vec<String> = selectors.iter().map(ToString::to_string).collect();
-    /// assert_eq!(printed, ["& > b", "& c"]);
+    /// let mut tree = Tree::new();
+    /// let input = tree.push(None, "input").unwrap();
+    /// tree.set_attribute("type", "text").unwrap();
+    /// let document = Document::new(&tree);
+    /// let selector = Selector::parse("INPUT[Type=TEXT]").unwrap();
+    /// let read = selector.in_html(HtmlMode::NoQuirks);
+    /// let node = document.node(input).unwrap();
+    /// assert_eq!([selector.matches(&node), read.matches(&node)], [Ok(false), Ok(true)]);
     /// ```
-    pub fn parse_nested_list(list: Nesting, text: &'a str) -> Result<Vec<Self>, SelectorError> {
-        match css_selectors::Selector::parse_nested_list(Global, list, within(text)) {
-            Ok(selectors) => Ok(selectors.0.into_iter().map(Selector).collect()),
-            Err(refusal) => Err(SelectorError::new(text, refusal)),
+    pub fn in_html(&self, mode: HtmlMode) -> Selector<'_> {
+        Selector {
+            selector: done(html_selector(Global, mode, &self.selector)),
+            asking: self.asking.as_ref().map(|it| it.in_html(mode)),
         }
     }
 
     /// Returns the name of the pseudo-element at the end, if there is one.
     pub fn pseudo_element(&self) -> Option<&str> {
-        self.0.pseudo_element().map(|it| it.element.name.as_str())
+        self.selector.pseudo_element().map(|it| it.element.name.as_str())
     }
 
     /// Returns the specificity.
     pub fn specificity(&self) -> Specificity {
-        self.0.specificity()
+        self.selector.specificity()
     }
 
-    /// Whether the selector matches the element. One with a pseudo-element matches none.
-    pub fn matches<E: Element>(&self, element: &E) -> bool {
-        self.0.matches(element)
+    /// Whether a single element cannot answer: the selector has `:has()` or a list after `An+B`.
+    pub fn needs_page(&self) -> bool {
+        self.asking.is_some()
     }
+
+    /// Whether the selector matches the element. One with a pseudo-element matches none. Fails if the selector needs
+    /// a page: see [`Page::select`] and [`Document::select`].
+    ///
+    /// ```
+    /// use simplecss::modern::{Document, NeedsPage, Selector};
+    /// use simplecss::tree::Tree;
+    ///
+    /// let mut tree = Tree::new();
+    /// let list = tree.push(None, "ul").unwrap();
+    /// let document = Document::new(&tree);
+    /// let matches = |text| Selector::parse(text).unwrap().matches(&document.node(list).unwrap());
+    /// assert_eq!([matches("ul"), matches("ol"), matches("ul:not(:has(li))")], [Ok(true), Ok(false), Err(NeedsPage)]);
+    /// ```
+    pub fn matches<E: Element>(&self, element: &E) -> Result<bool, NeedsPage> {
+        if self.needs_page() {
+            return Err(NeedsPage);
+        }
+        Ok(self.selector.matches(element))
+    }
+}
+
+/// Fails if all lists of these selectors have more than `most` answers on so many elements.
+fn expect_few(selectors: &[Selector<'_>], elements: usize, most: usize) -> Result<(), TooManyAnswers> {
+    let lists: usize = selectors.iter().map(|it| it.asking().1.len()).sum();
+    match lists.checked_mul(elements) {
+        Some(answers) if answers <= most => Ok(()),
+        _ => Err(TooManyAnswers),
+    }
+}
+
+/// Returns the indices at which it is so.
+fn places_of(found: &[bool]) -> Vec<usize> {
+    (0..found.len()).filter(|it| found[*it]).collect()
 }
 
 impl fmt::Debug for Selector<'_> {
     fn fmt(&self, f: &mut fmt::Formatter<'_>) -> fmt::Result {
-        fmt::Debug::fmt(&self.0.to_string(), f)
+        fmt::Debug::fmt(&self.selector.to_string(), f)
     }
 }
 
 /// Prints the selector as CSSOM serializes it.
 impl fmt::Display for Selector<'_> {
     fn fmt(&self, f: &mut fmt::Formatter<'_>) -> fmt::Result {
-        fmt::Display::fmt(&self.0, f)
+        fmt::Display::fmt(&self.selector, f)
     }
 }
 
@@ -192,118 +342,179 @@ impl fmt::Display for SheetError {
 impl crate::rattle_std::error::Error for SheetError {}
 
 /// The style rules of a sheet, in the order of the cascade.
-pub struct Sheet<'a>(css_styles::StyleRules<'a>);
+pub struct Sheet<'a> {
+    rules: css_styles::StyleRules<'a>,
+    /// Whether each rule needs a page.
+    needs_page: Vec<bool>,
+}
 
 impl<'a> Sheet<'a> {
-    /// Reads a sheet. `holds` says whether the condition of a group rule that is no `@layer` holds, by the
-    /// keyword that its name is and its prelude. Set a limit for texts from untrusted sources
-    /// ([`Sheet::read_limited`]).
-    pub fn read(
-        text: &'a str,
-        holds: impl Fn(&str, &str) -> bool,
-    ) -> Result<Self, SheetError> {
-        Sheet::read_limited(text, usize::MAX, holds)
-    }
-
-    /// Reads a sheet as [`Sheet::read`] does, unless its rules hold more than `most` declarations.
-    pub fn read_limited(
-        text: &'a str,
-        most: usize,
-        holds: impl Fn(&str, &str) -> bool,
-    ) -> Result<Self, SheetError> {
-        Sheet::read_in(text, &[], most, holds)
-    }
-
-    /// Reads a sheet with the namespaces of these urls. The first has number 1. Selectors are read with what the
-    /// sheet's `@namespace` rules declare. If no url is given, or more than 1,024, a rule with a prefix has no
-    /// selectors that are supported, and a default namespace changes nothing. Else it reads as
-    /// [`Sheet::read_limited`] does.
+    /// Parses a sheet. Fails if its rules hold more declarations than the limit, or if there are more than 1,024
+    /// layers.
     ///
     /// ```
-    /// use simplecss::modern::Sheet;
+    /// use simplecss::modern::{Options, Sheet};
     ///
     /// let text = "@namespace svg 'http://www.w3.org/2000/svg'; svg|a { b: c } html|a { d: e }";
-    /// let known = ["http://www.w3.org/2000/svg"];
-    /// let sheet = Sheet::read_in(text, &known, 1_000, |_, _| true).unwrap();
+    /// let options = Options { namespaces: &["http://www.w3.org/2000/svg"], ..Options::default() };
+    /// let sheet = Sheet::parse(text, &options).unwrap();
     /// assert_eq!(sheet.rules().map(|rule| rule.text()).collect::<Vec<_>>(), ["svg|a"]);
     /// ```
-    pub fn read_in(
+    pub fn parse(text: &'a str, options: &Options<'_>) -> Result<Self, SheetError> {
+        Sheet::parse_where(text, options, |keyword, prelude| options.holds(keyword, prelude))
+    }
+
+    /// Parses a sheet as [`Sheet::parse`] does, with conditions of your own. `holds` says whether that of a group rule
+    /// other than `@layer` holds, by the keyword that its name is and its prelude.
+    ///
+    /// ```
+    /// use simplecss::modern::{Options, Sheet};
+    ///
+    /// let text = "@container (min-width: 1px) { a { b: c } } @media print { d { e: f } }";
+    /// let options = Options::default();
+    /// let holds = |keyword: &str, prelude: &str| keyword == "container" || options.holds(keyword, prelude);
+    /// let sheet = Sheet::parse_where(text, &options, holds).unwrap();
+    /// assert_eq!(sheet.rules().map(|rule| rule.text()).collect::<Vec<_>>(), ["a"]);
+    /// ```
+    pub fn parse_where(
         text: &'a str,
-        namespaces: &[&str],
-        most: usize,
+        options: &Options<'_>,
         holds: impl Fn(&str, &str) -> bool,
     ) -> Result<Self, SheetError> {
         let sheet = css_sheet::Sheet {
             text: within(text),
             origin: css_cascade::Origin::Author,
             around: &[],
-            namespaces,
+            namespaces: options.namespaces,
         };
-        match css_styles::StyleRules::read(Global, &[sheet], most, holds) {
+        match css_styles::StyleRules::read(Global, &[sheet], options.limit, holds) {
             Err(css_sheet::SheetError::TooManyDeclarations) => Err(SheetError::TooManyDeclarations),
             Err(css_sheet::SheetError::TooManyLayers) => Err(SheetError::TooManyLayers),
-            outcome => Ok(Sheet(done(outcome))),
+            outcome => Ok(Sheet::of(done(outcome))),
         }
+    }
+
+    fn of(rules: css_styles::StyleRules<'a>) -> Self {
+        Sheet { needs_page: rules.as_slice().iter().map(|it| needs_page(&it.selector)).collect(), rules }
     }
 
     /// Returns the rules, each with one selector.
     pub fn rules(&self) -> impl ExactSizeIterator<Item = Rule<'_, 'a>> {
-        self.0.as_slice().iter().map(Rule)
+        let both = self.rules.as_slice().iter().zip(&self.needs_page);
+        both.map(|(rule, needs_page)| Rule { rule, needs_page: *needs_page })
     }
 
-    /// Returns the declaration of a property that wins on the element: by importance, by layers, by
-    /// specificity, and by where it stands. Shorthands are not expanded.
-    pub fn winning<E: Element>(&self, element: &E, property: &str) -> Option<Declaration<'a>> {
-        let winner = css_styles::winning(Global, self.0.as_slice(), element, "".into(), property);
-        done(winner).map(|it| it.declaration)
-    }
-
-    /// Makes an index of the rules, for single elements.
-    pub fn index(&self) -> Index<'_, 'a> {
-        Index {
-            index: done(css_index::SelectorIndex::new(Global, self.0.as_slice())),
-            indices: crate::rattle_std::vec::Vec::new(Global),
+    /// Returns the rules with their selectors as an HTML document in this mode reads them: see
+    /// [`Selector::in_html`] and [`Document::html_styles`].
+    pub fn in_html(&self, mode: HtmlMode) -> HtmlSheet<'_, 'a> {
+        let rules = self.rules.as_slice().iter();
+        let selectors = rules.map(|rule| done(html_selector(Global, mode, &rule.selector)));
+        HtmlSheet {
+            rules: &self.rules,
+            selectors: crate::rattle_std::vec::Vec(selectors.collect()),
+            lists: html_lists(mode, self.rules.lists()),
         }
     }
 
-    /// Makes an index of the rules for a walk along a tree.
-    pub fn walk(&self) -> Walk<'_, 'a> {
-        Walk {
-            walk: done(css_index::SelectorWalk::new(Global, self.0.as_slice())),
+    /// Returns the rules that a single element cannot answer. If there are some, [`Sheet::winning`], [`Sheet::index`]
+    /// and [`Sheet::walk`] fail.
+    ///
+    /// ```
+    /// use simplecss::modern::{Options, Sheet};
+    ///
+    /// let text = "a { b: c; & d { e: f } } g:not(:has(h)) { i: j }";
+    /// let sheet = Sheet::parse(text, &Options::default()).unwrap();
+    /// let texts: Vec<_> = sheet.needing_page().map(|rule| rule.text()).collect();
+    /// assert_eq!(texts, ["& d", "g:not(:has(h))"]);
+    /// assert!(sheet.index().is_err());
+    /// ```
+    pub fn needing_page(&self) -> impl Iterator<Item = Rule<'_, 'a>> {
+        self.rules().filter(|rule| rule.needs_page)
+    }
+
+    /// Returns the rules, if single elements can answer all of them.
+    fn of_elements(&self) -> Result<&[css_sheet::SheetRule<'a>], NeedsPage> {
+        if self.needs_page.contains(&true) {
+            return Err(NeedsPage);
+        }
+        Ok(self.rules.as_slice())
+    }
+
+    /// Returns the declaration of a property that wins on the element. It wins by importance, by layers, by
+    /// specificity, and by where it stands. Shorthands are not expanded. Fails if one of the rules needs a page: see
+    /// [`Page::styles`] and [`Document::styles`].
+    pub fn winning<E: Element>(&self, element: &E, property: &str) -> Result<Option<Declaration<'a>>, NeedsPage> {
+        let winner = css_styles::winning(Global, self.of_elements()?, element, "".into(), property);
+        Ok(done(winner).map(|it| it.declaration))
+    }
+
+    /// Makes an index of the rules, for single elements. Fails if one of the rules needs a page: see
+    /// [`Page::styles`].
+    pub fn index(&self) -> Result<Index<'_, 'a>, NeedsPage> {
+        Ok(Index {
+            index: done(css_index::SelectorIndex::new(Global, self.of_elements()?)),
+            indices: crate::rattle_std::vec::Vec::new(Global),
+        })
+    }
+
+    /// Makes an index of the rules for a walk along a tree. Fails if one of the rules needs a page: see
+    /// [`Page::styles`].
+    pub fn walk(&self) -> Result<Walk<'_, 'a>, NeedsPage> {
+        Ok(Walk {
+            walk: done(css_index::SelectorWalk::new(Global, self.of_elements()?)),
             tried: crate::rattle_std::vec::Vec::new(Global),
             indices: crate::rattle_std::vec::Vec::new(Global),
-        }
+        })
     }
+}
+
+/// The style rules of a sheet, with their selectors as an HTML document reads them.
+pub struct HtmlSheet<'s, 'a> {
+    rules: &'s css_styles::StyleRules<'a>,
+    selectors: crate::rattle_std::vec::Vec<css_selectors::Selector<'s>>,
+    lists: crate::rattle_std::vec::Vec<css_selectors::MarkedList<'s>>,
 }
 
 /// A style rule with one selector.
 #[derive(Clone, Copy)]
-pub struct Rule<'s, 'a>(&'s css_sheet::SheetRule<'a>);
+pub struct Rule<'s, 'a> {
+    rule: &'s css_sheet::SheetRule<'a>,
+    needs_page: bool,
+}
 
 impl<'a> Rule<'_, 'a> {
     /// Returns the text of the selector, with its pseudo-element.
     pub fn text(&self) -> &'a str {
-        self.0.text
+        self.rule.text
     }
 
     /// Returns the name of the pseudo-element, as written, if there is one.
     pub fn pseudo_element(&self) -> Option<&'a str> {
-        self.0.pseudo_element
+        self.rule.pseudo_element
     }
 
     /// Returns the specificity.
     pub fn specificity(&self) -> Specificity {
-        self.0.specificity()
+        self.rule.specificity()
     }
 
-    /// Whether the rule applies to the element. A rule with a pseudo-element applies to none.
-    pub fn matches<E: Element>(&self, element: &E) -> bool {
-        self.0.pseudo_element.is_none() && self.0.selector.matches(element)
+    /// Whether a single element cannot answer: the selector has `:has()`, a list after `An+B` or an `&`.
+    pub fn needs_page(&self) -> bool {
+        self.needs_page
+    }
+
+    /// Whether the rule applies to the element. A rule with a pseudo-element applies to none. Fails if the rule needs
+    /// a page.
+    pub fn matches<E: Element>(&self, element: &E) -> Result<bool, NeedsPage> {
+        if self.needs_page {
+            return Err(NeedsPage);
+        }
+        Ok(self.rule.pseudo_element.is_none() && self.rule.selector.matches(element))
     }
 
     /// Returns the declarations, with what is skipped between them.
     pub fn declarations(&self) -> Declarations<'a> {
-        self.0.declarations()
+        self.rule.declarations()
     }
 }
 
@@ -326,16 +537,17 @@ impl Index<'_, '_> {
 /// it after them:
 ///
 /// ```
-/// use simplecss::modern::{Document, Sheet};
+/// use simplecss::modern::{Document, Options, Sheet};
 /// use simplecss::tree::Tree;
 ///
 /// let mut tree = Tree::new();
 /// let list = tree.push(None, "ul").unwrap();
 /// let item = tree.push(Some(list), "li").unwrap();
 /// let document = Document::new(&tree);
-/// let sheet = Sheet::read("li { margin: 0 } ul > li { color: red } ol li { color: blue }", |_, _| false).unwrap();
+/// let text = "li { margin: 0 } ul > li { color: red } ol li { color: blue }";
+/// let sheet = Sheet::parse(text, &Options::default()).unwrap();
 ///
-/// let mut walk = sheet.walk();
+/// let mut walk = sheet.walk().unwrap();
 /// walk.enter(&document.node(list).unwrap());
 /// assert_eq!(walk.matching(&document.node(item).unwrap()), [0, 1]);
 /// walk.leave();
@@ -441,7 +653,7 @@ impl<'p, 't> Document<'p, 't> {
     /// let mut document = Document::new(&tree);
     /// document.set_scope(Some(item));
     /// let selector = Selector::parse(":scope > a").unwrap();
-    /// assert!(selector.matches(&document.node(link).unwrap()));
+    /// assert_eq!(selector.matches(&document.node(link).unwrap()), Ok(true));
     /// ```
     pub fn set_scope(&mut self, scope: Option<usize>) {
         self.0.set_scope(scope);
@@ -466,9 +678,9 @@ impl<'p, 't> Document<'p, 't> {
     /// let href = NamespacedAttribute { namespace: 1, name: "href", value: "#b" };
     /// document.set_namespaced_attributes(vec![vec![href]]);
     /// let matches = |text| Selector::parse(text).unwrap().matches(&document.node(link).unwrap());
-    /// assert_eq!([matches("[*|href='#b']"), matches("[href]")], [true, false]);
+    /// assert_eq!([matches("[*|href='#b']"), matches("[href]")], [Ok(true), Ok(false)]);
     /// ```
-    pub fn set_namespaced_attributes(&mut self, attributes: Vec<Vec<NamespacedAttribute<'p>>>) {
+    pub fn set_namespaced_attributes(&mut self, attributes: Vec<Vec<NamespacedAttribute<'t>>>) {
         let each = attributes.into_iter().map(crate::rattle_std::vec::Vec);
         self.0.set_namespaced_attributes(crate::rattle_std::vec::Vec(each.collect()));
     }
@@ -486,9 +698,9 @@ impl<'p, 't> Document<'p, 't> {
     /// let mut document = Document::new(&tree);
     /// document.set_states(vec![("target", vec![false, true])]);
     /// let selector = Selector::parse("ul > :target").unwrap();
-    /// assert!(selector.matches(&document.node(item).unwrap()));
+    /// assert_eq!(selector.matches(&document.node(item).unwrap()), Ok(true));
     /// ```
-    pub fn set_states(&mut self, states: Vec<(&'p str, Vec<bool>)>) {
+    pub fn set_states(&mut self, states: Vec<(&'t str, Vec<bool>)>) {
         let named = states.into_iter().map(|(name, elements)| css_tree::NamedState {
             name,
             elements: crate::rattle_std::vec::Vec(elements),
@@ -511,38 +723,15 @@ impl<'p, 't> Document<'p, 't> {
     /// let mut document = Document::new(&tree);
     /// document.set_html();
     /// let selector = Selector::parse("input:disabled").unwrap();
-    /// assert!(selector.matches(&document.node(input).unwrap()));
+    /// assert_eq!(selector.matches(&document.node(input).unwrap()), Ok(true));
     /// ```
     pub fn set_html(&mut self) {
         done(self.0.set_html(Global));
     }
 
-    /// Answers the lists of selectors that `&` stands for in the nested rules of a sheet, and those of `:has()`,
-    /// `:nth-child()` and `:nth-last-child()`, each once for each element. Until then no rule with one of them matches.
-    /// What was marked before loses its answers. Mark again after [`Document::set_text`], [`Document::set_scope`] and
-    /// [`Document::set_html`].
-    ///
-    /// Fails if there are more than `most` answers, one for each list and each element; then no list has any.
-    ///
-    /// ```
-    /// use simplecss::modern::{Document, Sheet};
-    /// use simplecss::tree::Tree;
-    ///
-    /// let mut tree = Tree::new();
-    /// let list = tree.push(None, "ul").unwrap();
-    /// let item = tree.push(Some(list), "li").unwrap();
-    /// let link = tree.push(Some(item), "a").unwrap();
-    /// let sheet = Sheet::read("ul { > li { color: red; & a { color: blue } } }", |_, _| false).unwrap();
-    ///
-    /// let mut document = Document::new(&tree);
-    /// document.mark(&sheet, 1_000_000).unwrap();
-    /// let mut styles = document.styles(&sheet);
-    /// assert!(styles.style(list, "", "color").is_none());
-    /// assert_eq!(styles.style(item, "", "color").unwrap().declaration.value, "red");
-    /// assert_eq!(styles.style(link, "", "color").unwrap().declaration.value, "blue");
-    /// ```
-    pub fn mark(&mut self, sheet: &Sheet<'_>, most: usize) -> Result<(), TooManyAnswers> {
-        match self.0.mark(Global, sheet.0.lists(), most) {
+    /// Answers lists for each element, in place of those that were answered before.
+    fn answer(&mut self, lists: &[css_selectors::MarkedList<'_>], most: usize) -> Result<(), TooManyAnswers> {
+        match self.0.mark(Global, lists, most) {
             Err(css_tree::MarkingError::TooManyAnswers) => Err(TooManyAnswers),
             outcome => {
                 done(outcome);
@@ -551,11 +740,10 @@ impl<'p, 't> Document<'p, 't> {
         }
     }
 
-    /// Answers `:has()` and `:nth-child()` and `:nth-last-child()` with a list of selectors in these selectors, each
-    /// once for each element, and returns the selectors that ask for the answers, which match what these do. Until
-    /// then such a selector matches nothing. What was marked before loses its answers.
+    /// Returns the indices of the elements that match, in order. One of the selectors matches each. Each list of
+    /// `:has()` and after `An+B` is answered once for each element.
     ///
-    /// Fails if there are more than `most` answers, one for each list and each element; then no list has any.
+    /// Fails if there are more than `most` answers, one for each of these lists and each element.
     ///
     /// ```
     /// use simplecss::modern::{Document, Selector};
@@ -567,24 +755,18 @@ impl<'p, 't> Document<'p, 't> {
     /// tree.push(Some(item), "a").unwrap();
     /// let mut document = Document::new(&tree);
     /// let selectors = Selector::parse_list("ul:has(> li > a), li:has(> li)").unwrap();
-    /// let asking = document.mark_selectors(selectors, 1_000_000).unwrap();
-    /// let list = document.node(list).unwrap();
-    /// assert_eq!(asking.iter().map(|it| it.matches(&list)).collect::<Vec<_>>(), [true, false]);
+    /// assert_eq!(document.select(&selectors, 1_000_000).unwrap(), [list]);
     /// ```
-    pub fn mark_selectors<'a>(
-        &mut self,
-        selectors: Vec<Selector<'a>>,
-        most: usize,
-    ) -> Result<Vec<Selector<'a>>, TooManyAnswers> {
-        let mut numbering = css_selectors::Numbering::new(Global);
-        let asking = selectors.into_iter().map(|it| Selector(done(numbering.number(Global, it.0)))).collect();
-        match self.0.mark(Global, numbering.lists(), most) {
-            Err(css_tree::MarkingError::TooManyAnswers) => Err(TooManyAnswers),
-            outcome => {
-                done(outcome);
-                Ok(asking)
+    pub fn select(&mut self, selectors: &[Selector<'_>], most: usize) -> Result<Vec<usize>, TooManyAnswers> {
+        expect_few(selectors, self.0.len(), most)?;
+        let mut found = alloc::vec![false; self.0.len()];
+        for (selector, lists) in selectors.iter().map(Selector::asking) {
+            self.answer(lists, most)?;
+            for (index, one) in found.iter_mut().enumerate() {
+                *one = *one || self.0.node(index).map_or(false, |node| selector.matches(&node));
             }
         }
+        Ok(places_of(&found))
     }
 
     /// Returns the element at an index, if there is one.
@@ -592,19 +774,23 @@ impl<'p, 't> Document<'p, 't> {
         self.0.node(index)
     }
 
-    /// Returns a walk along the document that finds which declarations of a sheet win.
+    /// Returns a walk along the document that finds what wins. Lists of selectors are answered first, each once for each
+    /// element: those that `&` stands for in nested rules, those of `:has()`, and those after `An+B`.
+    ///
+    /// Fails if there are more than `most` answers, one for each list and each element.
     ///
     /// ```
-    /// use simplecss::modern::{Document, Own, Sheet, Source};
+    /// use simplecss::modern::{Document, Options, Own, Sheet, Source};
     /// use simplecss::tree::Tree;
     ///
     /// let mut tree = Tree::new();
     /// let list = tree.push(None, "ul").unwrap();
     /// let item = tree.push(Some(list), "li").unwrap();
-    /// let document = Document::new(&tree);
-    /// let sheet = Sheet::read("li { color: red; margin: 0 } ul > li { color: blue }", |_, _| false).unwrap();
+    /// let mut document = Document::new(&tree);
+    /// let text = "li { color: red; margin: 0 } ul:has(li) { > li { color: blue } }";
+    /// let sheet = Sheet::parse(text, &Options::default()).unwrap();
     ///
-    /// let mut styles = document.styles(&sheet);
+    /// let mut styles = document.styles(&sheet, 1_000_000).unwrap();
     /// let found = styles.winners(item, "margin: 1px").iter().map(|it| (it.declaration.value, it.source));
     /// assert_eq!(found.collect::<Vec<_>>(), [("blue", Source::Rule(1)), ("1px", Source::Style)]);
     ///
@@ -615,32 +801,125 @@ impl<'p, 't> Document<'p, 't> {
     /// let named = ["margin-left", "margin"];
     /// assert_eq!(styles.style_named(item, "margin: 1px", &named).unwrap().declaration.value, "1px");
     /// ```
-    pub fn styles<'d, 's, 'a>(&'d self, sheet: &'s Sheet<'a>) -> Styles<'d, 'p, 't, 's, 'a> {
-        Styles {
-            page: &self.0,
-            styles: done(css_styles::Styles::new(Global, &sheet.0)),
-            found: crate::rattle_std::vec::Vec::new(Global),
-        }
+    pub fn styles<'d, 's, 'a>(
+        &'d mut self,
+        sheet: &'s Sheet<'a>,
+        most: usize,
+    ) -> Result<Styles<'d, 'p, 't, 's, 'a, 'a>, TooManyAnswers> {
+        self.answer(sheet.rules.lists(), most)?;
+        Ok(Styles::new(&self.0, &sheet.rules, None))
+    }
+
+    /// Returns a walk as [`Document::styles`] does, where selectors are read as in an HTML document.
+    ///
+    /// ```
+    /// use simplecss::modern::{Document, HtmlMode, Options, Sheet};
+    /// use simplecss::tree::Tree;
+    ///
+    /// let mut tree = Tree::new();
+    /// let list = tree.push(None, "ul").unwrap();
+    /// let item = tree.push(Some(list), "li").unwrap();
+    /// let mut document = Document::new(&tree);
+    /// let sheet = Sheet::parse("UL { color: red; &:has(LI) { color: blue } }", &Options::default()).unwrap();
+    /// assert!(document.styles(&sheet, 1_000_000).unwrap().style(list, "", "color").is_none());
+    ///
+    /// let sheet = sheet.in_html(HtmlMode::NoQuirks);
+    /// let mut styles = document.html_styles(&sheet, 1_000_000).unwrap();
+    /// assert_eq!(styles.style(list, "", "color").unwrap().declaration.value, "blue");
+    /// assert_eq!(styles.matching(list), [0, 1]);
+    /// assert!(styles.style(item, "", "color").is_none());
+    /// ```
+    pub fn html_styles<'d, 'h, 's, 'a>(
+        &'d mut self,
+        sheet: &'h HtmlSheet<'s, 'a>,
+        most: usize,
+    ) -> Result<Styles<'d, 'p, 't, 'h, 'a, 's>, TooManyAnswers> {
+        self.answer(sheet.lists.as_slice(), most)?;
+        Ok(Styles::new(&self.0, sheet.rules, Some(sheet.selectors.as_slice())))
     }
 }
 
 /// A walk along a document that finds which declarations win. Elements may be asked in any order, and those in the
-/// order of the document take the least time.
-pub struct Styles<'d, 'p, 't, 's, 'a> {
+/// order of the document take the least time. While it lives the document does not change:
+///
+/// ```compile_fail,E0499
+/// use simplecss::modern::{Document, Options, Sheet};
+/// use simplecss::tree::Tree;
+///
+/// let mut tree = Tree::new();
+/// tree.push(None, "a").unwrap();
+/// let mut document = Document::new(&tree);
+/// let sheet = Sheet::parse("a:not(:has(:empty)) { b: c }", &Options::default()).unwrap();
+/// let mut styles = document.styles(&sheet, 1_000_000).unwrap();
+/// document.set_text(0);
+/// assert!(styles.style(0, "", "b").is_some());
+/// ```
+pub struct Styles<'d, 'p, 't, 's, 'a, 'w> {
     page: &'d css_tree::NumberedTree<'p, 't>,
-    styles: css_styles::Styles<'s, 'a, 'a>,
+    rules: &'s css_styles::StyleRules<'a>,
+    /// The selectors of the rules, if they are read in another way.
+    selectors: Option<&'s [css_selectors::Selector<'w>]>,
+    /// What finds winners, once they are asked for.
+    styles: Option<css_styles::Styles<'s, 'a, 'w>>,
     found: crate::rattle_std::vec::Vec<Winner<'a>>,
+    /// What finds rules, once they are asked for.
+    walk: Option<css_tree::TreeWalk<'s, 'w>>,
+    indices: crate::rattle_std::vec::Vec<usize>,
 }
 
-impl<'a> Styles<'_, '_, '_, '_, 'a> {
+impl<'d, 'p, 't, 's, 'a: 'w, 'w> Styles<'d, 'p, 't, 's, 'a, 'w> {
+    fn new(
+        page: &'d css_tree::NumberedTree<'p, 't>,
+        rules: &'s css_styles::StyleRules<'a>,
+        selectors: Option<&'s [css_selectors::Selector<'w>]>,
+    ) -> Self {
+        Styles {
+            page,
+            rules,
+            selectors,
+            styles: None,
+            found: crate::rattle_std::vec::Vec::new(Global),
+            walk: None,
+            indices: crate::rattle_std::vec::Vec::new(Global),
+        }
+    }
+
+    /// Returns what finds winners, which is made when it is asked first.
+    fn finding(&mut self) -> (&mut css_styles::Styles<'s, 'a, 'w>, &mut crate::rattle_std::vec::Vec<Winner<'a>>) {
+        let (rules, selectors) = (self.rules, self.selectors);
+        let styles = self.styles.get_or_insert_with(|| {
+            done(match selectors {
+                None => css_styles::Styles::new(Global, rules),
+                Some(selectors) => css_styles::Styles::with_selectors(Global, rules, selectors),
+            })
+        });
+        (styles, &mut self.found)
+    }
+
+    /// Returns the indices of the rules that match an element, in order. A rule with a pseudo-element is one of them if
+    /// the selector before that matches. Panics if there is no element at the index.
+    pub fn matching(&mut self, index: usize) -> &[usize] {
+        self.expect(index);
+        let (rules, selectors) = (self.rules.as_slice(), self.selectors);
+        let walk = self.walk.get_or_insert_with(|| {
+            done(match selectors {
+                None => css_tree::TreeWalk::new(Global, rules),
+                Some(selectors) => css_tree::TreeWalk::new(Global, selectors),
+            })
+        });
+        done(walk.matching(self.page, index, &mut self.indices, &mut css_matching::Tests::new()));
+        &self.indices
+    }
+
     /// Returns the declarations that win on the element at an index that has these of its own: for each property the
     /// one that no other beats. A text is that of its `style` attribute. Shorthands are not expanded. Panics if there
     /// is no such element.
     pub fn winners(&mut self, index: usize, own: impl Into<Own<'a>>) -> &[Winner<'a>] {
         let mut tests = css_matching::Tests::new();
         self.expect(index);
-        let own = short(own.into());
-        done(self.styles.winners(self.page, index, own, &mut self.found, &mut tests));
+        let (page, own) = (self.page, short(own.into()));
+        let (styles, found) = self.finding();
+        done(styles.winners(page, index, own, found, &mut tests));
         &self.found
     }
 
@@ -660,8 +939,9 @@ impl<'a> Styles<'_, '_, '_, '_, 'a> {
         let mut tests = css_matching::Tests::new();
         let mut found = crate::rattle_std::vec::Vec::new(Global);
         self.expect(index);
-        let own = short(own.into());
-        done(self.styles.winners_named(self.page, index, own, &[names], &mut found, &mut tests));
+        let (page, own) = (self.page, short(own.into()));
+        let (styles, _) = self.finding();
+        done(styles.winners_named(page, index, own, &[names], &mut found, &mut tests));
         found.iter().next().copied().flatten()
     }
 

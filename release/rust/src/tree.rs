@@ -10,6 +10,7 @@
 //! assert!(Selector::parse("ul > li.odd").unwrap().matches(&tree.node(item).unwrap()));
 //! ```
 use crate::erased::simplecss_tree as proved;
+use crate::erased::simplecss_tree::Nodes as _;
 use crate::rattle_std::alloc::Global;
 use core::fmt;
 

@@ -12,6 +12,7 @@ extern crate alloc;
 mod erased;
 mod rattle_log;
 mod rattle_std;
+mod raw;
 
 /// Returns a text that is read. Those that callers pass are measured by `read`.
 #[inline(always)]

@@ -2,9 +2,10 @@
 //!
 //! An allocation that fails is an `Err` where Rust's `alloc` can say so, and aborts where it cannot: in
 //! maps and in sorting.
-pub use core::{cell, cmp, convert, iter, mem, ops, option, result, slice, str};
+pub use core::{cell, cmp, convert, iter, mem, ops, option, ptr, result, slice, str};
 
 pub mod borrow;
+pub mod boxed;
 pub mod collections;
 pub mod fmt;
 pub mod io;
@@ -15,6 +16,7 @@ pub mod vec;
 
 /// What every source has without an import.
 pub mod prelude {
+    pub use super::boxed::Box;
     pub use super::options::IsSomeAnd;
     pub use super::slices::FirstChunk;
     pub use super::string::{Lowercase, String, ToString};
@@ -35,6 +37,11 @@ pub mod alloc {
     /// The allocator of Rust's `alloc`.
     #[derive(Clone, Copy, Debug, Default, PartialEq)]
     pub struct Global;
+
+    /// What allocates: the allocator of Rust's `alloc` alone.
+    pub trait Allocator {}
+
+    impl Allocator for Global {}
 
     /// An allocation failed.
     #[derive(Clone, Copy, Debug, PartialEq)]

@@ -73,6 +73,11 @@ impl<T> Vec<T> {
     }
 
     #[inline]
+    pub fn remove(&mut self, index: usize) -> T {
+        self.0.remove(index)
+    }
+
+    #[inline]
     pub fn as_slice(&self) -> &[T] {
         &self.0
     }
