@@ -1,11 +1,11 @@
 //! The module `modern` of the Rust crate as a program, for bench/speed.py: `match SELECTORS TREE`, with a selector a line and a
 //! tree as `cssq` takes it, writes for each element the numbers of the selectors that match it.
-use simplecss::modern::{Document, Item, Sheet};
+use simplecss::modern::{Document, Item, Options, Sheet};
 use simplecss::tree::Tree;
 use std::fmt::Write;
 
-fn read(text: &str) -> (Tree<'_>, Vec<usize>) {
-    let (mut tree, mut open, mut depths) = (Tree::new(), Vec::new(), Vec::new());
+fn read(text: &str) -> Tree<'_> {
+    let (mut tree, mut open) = (Tree::new(), Vec::new());
     for line in text.lines() {
         let mut fields = line.split('\t');
         let depth: usize = fields.next().unwrap().parse().unwrap();
@@ -14,9 +14,8 @@ fn read(text: &str) -> (Tree<'_>, Vec<usize>) {
         for (key, value) in fields.filter_map(|it| it.split_once('=')) {
             tree.set_attribute(key, value).unwrap();
         }
-        depths.push(depth);
     }
-    (tree, depths)
+    tree
 }
 
 /// The number of a rule's line, which its declaration has.
@@ -34,16 +33,13 @@ fn main() {
     for (at, line) in files[0].lines().enumerate() {
         writeln!(text, "{line}{{n:{}}}", at + 1).unwrap();
     }
-    let (tree, depths) = read(&files[1]);
-    let (document, sheet) = (Document::new(&tree), Sheet::read(&text, |_, _| true).unwrap());
+    let tree = read(&files[1]);
+    let options = Options { limit: usize::MAX, ..Options::default() };
+    let (mut document, sheet) = (Document::new(&tree), Sheet::parse(&text, &options).unwrap());
     let numbers: Vec<usize> = sheet.rules().map(|it| number(it.declarations())).collect();
-    let (mut walk, mut open, mut out) = (sheet.walk(), 0, String::new());
-    for (at, depth) in depths.into_iter().enumerate() {
-        let node = document.node(at).unwrap();
-        (depth..open).for_each(|_| walk.leave());
-        let mut found: Vec<usize> = walk.matching(&node).iter().map(|it| numbers[*it]).collect();
-        walk.enter(&node);
-        open = depth + 1;
+    let (mut styles, mut out) = (document.styles(&sheet, usize::MAX).unwrap(), String::new());
+    for at in 0..tree.len() {
+        let mut found: Vec<usize> = styles.matching(at).iter().map(|it| numbers[*it]).collect();
         found.sort_unstable();
         write!(out, "{}:", at + 1).unwrap();
         found.iter().for_each(|it| write!(out, " {it}").unwrap());

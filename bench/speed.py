@@ -697,6 +697,7 @@ mail = "<html><body>" + 10 * "<table class=t><tr><td class=b><a href=x class=l>t
 mail_css = "p{{a:b}}.b{{a:c}}a:hover{{d:e}}td>a{{d:f}}@media print{{a{{d:g}}}}"
 unclosed = f"<b {{' '.join(f'a{{i}}' for i in range(31))}} id={{{{}}}}>"
 unclosed = "".join(unclosed.format(number % 40) for number in range(2000))
+carded = 2000 * "<div class=card><div><a href=x>t</a></div><p>x</div>"
 {prepare}
 times = []
 for _ in range(5):
@@ -728,6 +729,30 @@ TINYCSS2 = (
     "[tinycss2.parse_declaration_list(rule.content) for rule in tinycss2.parse_stylesheet(css)"
     " if rule.type == 'qualified-rule']"
 )
+# Pages of Debian, on which a selector is measured beside the same call of soupsieve.
+PAGES = (
+    ("developers-reference", "developers-reference.html"),
+    ("python3.11-doc", "stdtypes.html"),
+    ("python3.11-doc", "whatsnew/3.11.html"),
+    ("python3.11-doc", "library/index.html"),
+)
+
+
+def of_cards(method: str, selector: str) -> Dict[str, Tuple[str, str]]:
+    """A method with a selector, which each package asks of each card of a page."""
+    soup = (
+        "import bs4, {0} as sieve; soup = bs4.BeautifulSoup(carded, 'lxml'); "
+        f"cards = soup.find_all(class_='card'); ask = sieve.compile('{selector}'); ask.select(soup)"
+    )
+    ours = "from simplecss import Tree; cards = Tree.from_html(carded).select('.card')"
+    asked = f"[ask.{method}(each) for each in cards]"
+    return {
+        "simplecss": (ours, f"[each.{method}('{selector}') for each in cards]"),
+        "`sieve`": (soup.format("simplecss.sieve"), asked),
+        "soupsieve": (soup.format("soupsieve"), asked),
+    }
+
+
 # What is measured: for each package what comes first, and a call.
 CALLS: Dict[str, Dict[str, Tuple[str, str]]] = {
     "the tree of the page": {
@@ -783,6 +808,18 @@ CALLS: Dict[str, Dict[str, Tuple[str, str]]] = {
         "cssselect2": (
             CSSSELECT2 + "root = cssselect2.ElementWrapper.from_html_root(html5lib.parse(page))",
             "list(root.query_all(next(selectors)))",
+        ),
+    },
+    "`:scope > div > a` in each of 2,000 cards": of_cards("select", ":scope > div > a"),
+    "the closest `:scope, .zzz` of each of 2,000 cards": of_cards("closest", ":scope, .zzz"),
+    "whether a selector matches an element, of 99": {
+        "simplecss": (
+            "from simplecss import Tree; one = Tree.from_html(page)[999]; one.matches('x')",
+            "[one.matches(f'div > .x{number}') for number in range(99)]",
+        ),
+        "soupsieve": (
+            "import bs4, soupsieve; one = bs4.BeautifulSoup(page, 'lxml').find_all(True)[999]",
+            "[soupsieve.match(f'div > .x{number}', one) for number in range(99)]",
         ),
     },
     "the rules of the sheet": {
@@ -878,6 +915,21 @@ def python_rows(files: Sequence[str]) -> Iterator[str]:
         if own is not None:
             others = ", ".join(f"{name} {time / own:.2f}" for name, time in times.items() if time)
             yield f"|{what}|{own:.1f}|{others}|"
+
+
+def selector_rows(bench: Bench, sheet: str) -> Iterator[str]:
+    """Yields the table of one selector on a ready tree by page, which says from what to what soupsieve takes."""
+    yield "|a selector on a page|simplecss, ms|soupsieve, in times of it|\n|---|---|---|"
+    names = ("a selector", "a selector of all elements")
+    for package, name in PAGES:
+        page = fetched(bench.folder, package, name)
+        files = [bench.put("other.html", page or ""), sheet]
+        for what in names if page else ():
+            own, other = (
+                measured_call(*CALLS[what][it], files) for it in ("simplecss", "soupsieve")
+            )
+            if own and other:
+                yield f"|{what}, {name}|{own:.1f}|{other / own:.1f}|"
 
 
 def pages_of(folder: str, tree: List[str]) -> Iterator[Tuple[str, str, Iterable[str]]]:
@@ -998,7 +1050,7 @@ def measure_python(
         sys.exit("the sheet and the page cannot be fetched")
     bench = Bench([], words.out, words.runs)
     files = [bench.put("page.html", page), bench.put("sheet.css", css)]
-    rows = [python_rows(files), shared_rows(files)]
+    rows = [python_rows(files), selector_rows(bench, files[1]), shared_rows(files)]
     if not words.quick:
         rows.append(ready_rows(bench, tree, words.modern and os.path.abspath(words.modern)))
     for table_of_rows in rows:

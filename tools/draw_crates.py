@@ -1,11 +1,12 @@
 #!/usr/bin/env python3
-"""Draws docs/crates.svg: the crates of crates.txt, each above those that it uses, and the ways of
-the command `style` and of the Python package's `inline` and `styles`.
+"""Draws docs/crates.svg: what people use at the top, and below it the crates of crates.txt, each above
+those that it uses, in columns by what they are about. Colored lines are the ways of a mail that `inline`
+writes and of `styles`.
 
     draw_crates.py > docs/crates.svg
 
-Crates of tests and examples are left out, and so is what another crate brings along. What MAKES
-does not name has no words.
+Crates of tests and examples are left out, and so is a line that others bring along. A crate that
+COLUMNS does not name is in the column REST, and what MAKES does not name has no words.
 """
 import os
 import sys
@@ -18,52 +19,108 @@ MAKES = {
     "simplecss_grammar": "the rules of CSS 2.1",
     "simplecss_selector": "selectors, matching",
     "simplecss_declaration": "declarations, blocks",
-    "css_syntax": "modern sheets, cut",
+    "css_syntax": "tokens, statements",
     "css_conditions": "media queries, @supports",
     "css_matching": "matching with ~",
-    "css_selectors": "modern selectors",
+    "css_selector_text": "modern selectors, read",
+    "css_selectors": "what they match",
     "css_open_elements": "what open elements have",
-    "css_index": "an index of these",
+    "css_index": "which rules match",
     "css_cascade": "the order of layers",
-    "css_sheet": "modern rules in order",
-    "css_styles": "modern winners",
+    "css_sheet": "rules in order, imports",
+    "css_styles": "what wins",
     "css_values": "var(), shorthands",
-    "css_tree": "trees as documents",
-    "css_laws": "both grammars agree",
+    "css_lint": "mistakes in sheets",
+    "css_clean": "strangers' CSS, kept safe",
+    "clean_calls": "calls: cleaning",
+    "css_tree": "pages for selectors",
+    "css_html": "tokens of pages",
+    "css_html_tree": "trees of pages",
+    "html_calls": "calls: HTML",
+    "html_encodings": "encodings of pages",
+    "css_laws": "laws of several crates",
+    "clean_laws": "laws of cleaned sheets",
     "simplecss": "rules in order, index",
-    "simplecss_tree": "trees of programs",
+    "css_elements": "trees, as rows",
+    "simplecss_tree": "trees for the port",
     "cssq_tree": "the tree of a text",
     "cssq": "winners, output",
     "cssq_cli": "files, arguments",
-    "simplecss_calls": "the calls, with slices",
+    "handles": "objects that C holds",
+    "kept_lists": "selectors that stay",
+    "kept_pages": "pages that stay",
+    "list_calls": "calls: kept lists",
+    "call_answers": "what calls answer",
+    "port_calls": "calls: the port",
+    "sheet_calls": "calls: sheets",
+    "page_calls": "calls: pages",
+    "simplecss_calls": "calls: what wins",
     "simplecss_c": "the C library",
 }
-# The color of each way, and the edges that its texts take, from below to above.
-WAYS = {
-    "cssq style": (
-        "#1f6fb4",
-        (
-            "css_text simplecss_grammar simplecss_selector simplecss cssq cssq_cli;"
-            " simplecss_grammar simplecss_declaration simplecss; simplecss_selector cssq_tree cssq"
-        ),
+# What people use, and the crates that it uses.
+DOORS = {
+    "Python": ("simplecss_c",),
+    "JavaScript": ("simplecss_c",),
+    "C": ("simplecss_c",),
+    "Rust": ("css_styles", "css_lint", "css_clean", "html_calls", "css_conditions", "cssq"),
+    "cssq, a program": ("cssq_cli",),
+}
+MAKES.update(
+    {
+        "Python": "inline, select, styles",
+        "JavaScript": "select, styles, lint",
+        "C": "simplecss.h",
+        "Rust": "the crate, modern",
+        "cssq, a program": "match, style",
+    }
+)
+# The columns: what they are about, a color, and their crates. REST has what no column names.
+REST = 1
+COLUMNS = (
+    (
+        "Style sheets",
+        "#eef4fb",
+        "css_text css_syntax css_conditions css_cascade css_sheet css_values css_lint css_clean"
+        " css_styles sheet_calls clean_calls",
     ),
-    "inline in Python": (
+    (
+        "The C library, and laws",
+        "#f3f3f3",
+        "simplecss_c simplecss_calls call_answers css_laws clean_laws",
+    ),
+    (
+        "Selectors and pages",
+        "#eef7ee",
+        "css_matching css_selector_text css_selectors css_index css_open_elements css_elements css_tree"
+        " page_calls kept_lists list_calls kept_pages handles css_html css_html_tree html_encodings html_calls",
+    ),
+    (
+        "CSS 2.1: the port",
+        "#fbf4ea",
+        "simplecss_grammar simplecss_selector simplecss_declaration simplecss simplecss_tree cssq_tree cssq"
+        " cssq_cli port_calls",
+    ),
+)
+# The color of each way, and the edges that it takes, from below to above.
+WAYS = {
+    "a mail: inline in Python": (
         "#d9690a",
         (
-            "css_text css_syntax css_selectors css_index css_sheet simplecss_calls simplecss_c;"
-            " css_index css_tree simplecss_calls"
+            "css_text css_syntax css_selector_text css_sheet sheet_calls simplecss_c Python;"
+            " css_selector_text css_selectors css_index css_tree page_calls simplecss_calls simplecss_c;"
+            " css_text css_html css_html_tree html_calls simplecss_c"
         ),
     ),
-    "styles in Python": (
+    "styles": (
         "#2a8a3e",
         (
-            "css_text css_syntax css_selectors css_index css_sheet css_styles simplecss_calls"
-            " simplecss_c; css_index css_tree simplecss_calls;"
-            " css_syntax css_conditions simplecss_calls"
+            "css_text css_syntax css_selector_text css_sheet css_styles simplecss_calls"
+            " simplecss_c Python; css_selector_text css_selectors css_index css_tree page_calls simplecss_calls;"
+            " css_syntax css_conditions sheet_calls simplecss_c; css_syntax css_values css_styles"
         ),
     ),
 }
-WIDE, HIGH, GAP_X, GAP_Y, LEFT, TOP_SPACE = 176, 46, 28, 54, 20, 46
+WIDE, HIGH, GAP_X, GAP_Y, LEFT, TOP_SPACE, APART = 164, 44, 24, 46, 40, 120, 30
 # How far from the middle of a gap the lines through it are.
 SHIFTS = (0, -5, 5, -9, 9)
 
@@ -98,35 +155,51 @@ def direct(uses: Dict[str, Set[str]]) -> List[Edge]:
     return sorted(edges)
 
 
-def layers_of(uses: Dict[str, Set[str]]) -> List[List[str]]:
-    """The crates in layers, lowest first. In a layer a crate is near those that it uses."""
+def levels_of(uses: Dict[str, Set[str]]) -> Dict[str, int]:
+    """How high each box is: above all that it uses, and the doors above all."""
     level: Dict[str, int] = {}
     while len(level) < len(uses):
         for name, others in uses.items():
             if name not in level and others <= set(level):
                 level[name] = 1 + max((level[other] for other in others), default=-1)
-    layers: List[List[str]] = []
-    for number in range(1 + max(level.values())):
-        last = {name: index for index, name in enumerate(layers[-1])} if layers else {}
-        ties = {name: [last[other] for other in uses[name] if other in last] for name in uses}
-        order = sorted(
-            (sum(ties[name]) / len(ties[name]) if ties[name] else 9.0, name)
-            for name in uses
-            if level[name] == number
-        )
-        layers.append([name for _, name in order])
-    return layers
+    top = 1 + max(number for name, number in level.items() if name not in DOORS)
+    return {name: top if name in DOORS else number for name, number in level.items()}
 
 
-def places_of(layers: List[List[str]]) -> Dict[str, Tuple[float, float]]:
-    """The upper left corner of each box."""
-    widest = max(map(len, layers))
+def columns_of(uses: Dict[str, Set[str]]) -> List[List[str]]:
+    """The crates of each column."""
+    columns = [[name for name in names.split() if name in uses] for _, _, names in COLUMNS]
+    known = {name for column in columns for name in column} | set(DOORS)
+    columns[REST] += [name for name in uses if name not in known]
+    return columns
+
+
+def places_of(uses: Dict[str, Set[str]]) -> Dict[str, Tuple[float, float]]:
+    """The upper left corner of each box: by its column and its level, in a row near those that it
+    uses."""
+    level, left = levels_of(uses), float(LEFT)
+    top = max(level.values())
     places: Dict[str, Tuple[float, float]] = {}
-    for number, layer in enumerate(reversed(layers)):
-        start = LEFT + (widest - len(layer)) * (WIDE + GAP_X) / 2
-        for index, name in enumerate(layer):
-            places[name] = (start + index * (WIDE + GAP_X), TOP_SPACE + number * (HIGH + GAP_Y))
+    for column in columns_of(uses):
+        rows = [[name for name in column if level[name] == number] for number in range(top)]
+        wide = max(map(len, rows)) * (WIDE + GAP_X) - GAP_X
+        for number, row in enumerate(rows):
+            start = left + (wide - len(row) * (WIDE + GAP_X) + GAP_X) / 2
+            row.sort(key=lambda name: (middle(name, uses, places), name))
+            for index, name in enumerate(row):
+                at = start + index * (WIDE + GAP_X)
+                places[name] = (at, TOP_SPACE + (top - number) * (HIGH + GAP_Y))
+        left += wide + 2 * APART
+    start = (left - len(DOORS) * (WIDE + 2 * GAP_X)) / 2
+    for index, name in enumerate(DOORS):
+        places[name] = (start + index * (WIDE + 2 * GAP_X), TOP_SPACE - 30)
     return places
+
+
+def middle(name: str, uses: Dict[str, Set[str]], places: Dict[str, Tuple[float, float]]) -> float:
+    """Where what a crate uses is, on average."""
+    found = [places[other][0] for other in uses[name] if other in places]
+    return sum(found) / len(found) if found else 0.0
 
 
 def way_edges(words: str, uses: Dict[str, Set[str]]) -> List[Edge]:
@@ -141,20 +214,22 @@ def way_edges(words: str, uses: Dict[str, Set[str]]) -> List[Edge]:
 
 
 class Lines:
-    """Lines between boxes, which go through the gaps of the layers on their way."""
+    """Lines between boxes, which go through the gaps of the rows on their way."""
 
-    def __init__(self, layers: List[List[str]], places: Dict[str, Tuple[float, float]]) -> None:
+    def __init__(self, places: Dict[str, Tuple[float, float]]) -> None:
         self.places = places
-        self.rows = [[places[name] for name in layer] for layer in reversed(layers)]
+        tops = sorted({y for _, y in places.values()})
+        self.rows = [sorted(place for place in places.values() if place[1] == y) for y in tops]
         # How many lines go through each gap so far.
         self.taken: Dict[Tuple[float, float], int] = {}
 
     def gap(self, row: List[Tuple[float, float]], x: float) -> float:
         """Where a line that is to cross a row at `x` crosses it, beside the boxes."""
-        gaps = [each - GAP_X / 2 for each, _ in row] + [row[-1][0] + WIDE + GAP_X / 2]
-        if x < gaps[0] or x > gaps[-1]:
+        inside = [each for each, _ in row if each - GAP_X / 2 < x < each + WIDE + GAP_X / 2]
+        if not inside:
             return x
-        found = min(gaps, key=lambda each: abs(each - x))
+        sides = (inside[0] - GAP_X / 2, inside[0] + WIDE + GAP_X / 2)
+        found = min(sides, key=lambda each: abs(each - x))
         number = self.taken[found, row[0][1]] = self.taken.get((found, row[0][1]), -1) + 1
         return found + SHIFTS[number % len(SHIFTS)]
 
@@ -162,59 +237,95 @@ class Lines:
         """A line from the lower edge of the upper box to the upper edge of the lower one."""
         (x, y), (u, v) = self.places[upper], self.places[lower]
         x, u, y = x + WIDE / 2 + shift, u + WIDE / 2 + shift, y + HIGH
-        points = [(x, y)]
+        # Lines of two colors between the same boxes are apart, wherever they lead.
+        lift = shift / 2 if u <= x else -shift / 2
+        points = [(x, y + lift)]
         for row in self.rows:
             top = row[0][1]
             if y < top < v:
                 last, start = points[-1]
                 place = self.gap(row, last + (u - last) * (top - start) / (v - start))
                 points += [(place, top - 4), (place, top + HIGH + 4)]
-        points.append((u, v))
+        points.append((u, v + lift))
         words = " ".join(f"{left:g},{below:g}" for left, below in points)
         return f'<polyline points="{words}" fill="none" stroke="{color}" stroke-width="{width:g}"/>'
 
 
 def box(name: str, place: Tuple[float, float]) -> List[str]:
-    """A crate's box, with its name and what it makes."""
+    """The box of a crate or a door, with its name and what it makes."""
     x, y = place
+    fill, pen = ("#334155", "white") if name in DOORS else ("white", "#111")
     return [
         (
-            f'<rect x="{x:g}" y="{y:g}" width="{WIDE}" height="{HIGH}" rx="6" fill="#f4f6f8"'
+            f'<rect x="{x:g}" y="{y:g}" width="{WIDE}" height="{HIGH}" rx="6" fill="{fill}"'
             ' stroke="#667"/>'
         ),
         (
             f'<text x="{x + WIDE / 2:g}" y="{y + 19:g}" text-anchor="middle"'
-            f' font-weight="bold">{name}</text>'
+            f' font-weight="bold" fill="{pen}">{name}</text>'
         ),
         (
-            f'<text x="{x + WIDE / 2:g}" y="{y + 36:g}" text-anchor="middle"'
-            f' fill="#445">{MAKES.get(name, "")}</text>'
+            f'<text x="{x + WIDE / 2:g}" y="{y + 35:g}" text-anchor="middle"'
+            f' fill="{pen}" fill-opacity="0.8">{MAKES.get(name, "")}</text>'
         ),
     ]
+
+
+def backgrounds(uses: Dict[str, Set[str]], places: Dict[str, Tuple[float, float]]) -> List[str]:
+    """The columns, with what they are about."""
+    parts = []
+    low = max(y for _, y in places.values()) + HIGH + 2 * APART
+    for (title, color, _), column in zip(COLUMNS, columns_of(uses)):
+        left = min(places[name][0] for name in column) - APART + 6
+        right = max(places[name][0] for name in column) + WIDE + APART - 6
+        top = TOP_SPACE + HIGH
+        parts.append(
+            f'<rect x="{left:g}" y="{top}" width="{right - left:g}" height="{low - top:g}" rx="10"'
+            f' fill="{color}"/>'
+        )
+        parts.append(
+            f'<text x="{(left + right) / 2:g}" y="{low - 14:g}" text-anchor="middle" font-size="15"'
+            f' fill="#556">{title}</text>'
+        )
+    return parts
+
+
+def legend() -> List[str]:
+    """What lines mean."""
+    rows = [("#999", 1.5, "the upper one uses the lower one, with all below that")]
+    rows += [(color, 3, name) for name, (color, _) in WAYS.items()]
+    parts = []
+    for index, (color, width, words) in enumerate(rows):
+        x, y = LEFT + (0, 450, 700)[index], 34
+        parts.append(
+            f'<line x1="{x}" y1="{y}" x2="{x + 36}" y2="{y}" stroke="{color}" stroke-width="{width}"/>'
+        )
+        parts.append(f'<text x="{x + 46}" y="{y + 5}" font-size="14">{words}</text>')
+    return parts
 
 
 def picture() -> str:
     """The picture."""
     uses = read_uses()
-    layers = layers_of(uses)
-    places = places_of(layers)
-    wide = 2 * LEFT + max(map(len, layers)) * (WIDE + GAP_X) - GAP_X
-    high = TOP_SPACE + len(layers) * (HIGH + GAP_Y) - GAP_Y + 20
+    uses.update({name: set(others) & set(uses) for name, others in DOORS.items()})
+    places = places_of(uses)
+    wide = max(x for x, _ in places.values()) + WIDE + LEFT + APART
+    high = max(y for _, y in places.values()) + HIGH + 2 * APART + 20
     parts = [
-        f'<svg xmlns="http://www.w3.org/2000/svg" width="{wide}" height="{high}"'
+        f'<svg xmlns="http://www.w3.org/2000/svg" width="{wide:g}" height="{high:g}"'
         ' font-family="sans-serif" font-size="12">'
     ]
-    parts.append(f'<rect width="{wide}" height="{high}" fill="white"/>')
-    lines = Lines(layers, places)
-    parts += [lines.line(upper, lower, "#bbb", 1.5, 0) for upper, lower in direct(uses)]
-    for index, (name, (color, words)) in enumerate(WAYS.items()):
-        for lower, upper in way_edges(words, uses):
-            parts.append(lines.line(upper, lower, color, 3, 5 - 5 * index))
-        parts.append(
-            f'<text x="{LEFT}" y="{26 + 18 * index}" fill="{color}" font-weight="bold">'
-            f"{name}</text>"
-        )
-    parts += [part for layer in layers for name in layer for part in box(name, places[name])]
+    parts.append(f'<rect width="{wide:g}" height="{high:g}" fill="white"/>')
+    parts += [*backgrounds(uses, places), *legend()]
+    lines = Lines(places)
+    ways = [(*way, way_edges(words, uses)) for way, words in ((w[:1], w[1]) for w in WAYS.values())]
+    colored = {edge for _, edges in ways for edge in edges}
+    plain = [(upper, lower) for upper, lower in direct(uses) if (lower, upper) not in colored]
+    parts += [lines.line(upper, lower, "#b4bac2", 1.2, 0) for upper, lower in plain]
+    for index, (color, edges) in enumerate(ways):
+        for lower, upper in edges:
+            parts.append(lines.line(upper, lower, color, 3, 4 - 8 * index))
+    parts += [part for name in uses for part in box(name, places[name])]
     return "\n".join([*parts, "</svg>"]) + "\n"
 
 

@@ -1,18 +1,20 @@
 #!/usr/bin/env python3
 """Writes the proved sources as a crate of Rust, by leaving out what only a prover reads.
 
-  tools/erase.py DIR          the crate `simplecss`, with its Cargo.toml
+  tools/erase.py DIR          the crate `simplecss`, with its Cargo.toml, in place of that of others
+  tools/erase.py --publish DIR    the same sources as a crate of a name of its own
   tools/erase.py --c DIR      the C library as a crate: `cargo build --release` makes libsimplecss
 
 What is left out is listed here, and any other construct that Rust does not have is refused, with
 its file and line, here or by rustc. Nothing that runs is changed but three things: a formatter has no
 type parameter, since Rust's has none; paths begin with the module that the erased crate has become;
-and what `CHANGED` names, which changes nothing on a target of 64 bits. The names of Rattle's `std`
-are those of `release/rust/src/rattle_std`.
+and what `CHANGED` names, which on a target of 64 bits changes how objects are dropped, and nothing
+else. The names of Rattle's `std` are those of `release/rust/src/rattle_std`.
 """
 
 from __future__ import annotations
 
+import json
 import re
 import shutil
 import sys
@@ -20,6 +22,10 @@ from pathlib import Path
 from typing import Dict, List, NamedTuple, Tuple
 
 TOP = Path(__file__).resolve().parent.parent
+sys.path.insert(0, str(TOP))
+
+from tools import metadata
+
 # The names of Rattle's libraries over Rust's, which each package has.
 SHARED = TOP / "release/rust/src"
 
@@ -40,11 +46,13 @@ class Package(NamedTuple):
 
 # fmt: off
 RUST = Package(TOP / "release/rust", ("simplecss", "simplecss_tree"), ("cssq/src/cascade.rt",),
-               ("css_styles", "css_values"))
+               ("css_styles", "css_values", "css_conditions", "css_lint", "html_calls",
+                "html_encodings", "css_clean"))
 # fmt: on
-LIBRARY = Package(TOP / "release/c/crate", ("simplecss_c",), texts=(TOP / "include/simplecss.h",))
+HEADERS = (TOP / "include/simplecss.h", TOP / "include/simplecss.hpp")
+LIBRARY = Package(TOP / "release/c/crate", ("simplecss_c",), texts=HEADERS)
 # The libraries of Rattle besides `std` whose names are there over Rust's, or that only proofs use.
-LIBRARIES = ("log", "memchr")
+LIBRARIES = ("log", "memchr", "std_alloc")
 # Attributes that stay, and that go. Of derived traits, `Drop` says only that a value may be
 # dropped.
 # fmt: off
@@ -55,17 +63,52 @@ KEPT_ATTRIBUTES = (
 DROPPED_ATTRIBUTES = ("tactic", "cycle")
 DERIVED = ("Clone", "Copy", "Debug", "Default", "Eq", "Hash", "Ord", "PartialEq", "PartialOrd")
 CLAUSES = ("requires", "ensures", "decreases")
-# What is changed for targets of 32 bits, by the source: a product stays one of 64 bits, and a text
-# that is read has a greatest length.
+# What is changed, by the source. For targets of 32 bits: a product stays one of 64 bits, and a text
+# that is read has a greatest length. Of objects: Rust drops a value where it lies, and Rattle takes
+# it.
 CHANGED = {
-    "css_matching/hashes.rs": (
-        "(number_of(text).wrapping_mul(0x9E37_79B9_7F4A_7C15) >> 32)",
-        "((number_of(text) as u64).wrapping_mul(0x9E37_79B9_7F4A_7C15) >> 32) as usize",
-    ),
-    "css_text/stream.rs": (
-        "Stream { text, pos: 0 }",
-        "Stream { text: crate::within(text), pos: 0 }",
-    ),
+    "css_matching/hashes.rs": {
+        "(number_of(text).wrapping_mul(0x9E37_79B9_7F4A_7C15) >> 32)": (
+            "((number_of(text) as u64).wrapping_mul(0x9E37_79B9_7F4A_7C15) >> 32) as usize"
+        ),
+    },
+    "css_text/stream.rs": {
+        "Stream { text, pos: 0 }": "Stream { text: crate::within(text), pos: 0 }",
+    },
+    "kept_lists/list.rs": {
+        "fn drop(self)": "fn drop(&mut self)",
+        """let KeptList {
+            grammar: _grammar,
+            kept,
+            alloc,
+        } = self;""": "let (kept, alloc) = (self.kept.take(), self.alloc);",
+    },
+    "kept_lists/handle.rs": {
+        "fn drop(self)": "fn drop(&mut self)",
+        "drop(self.into_box())": (
+            "drop(core::mem::replace(self, ListHandle::none(self.alloc)).into_box())"
+        ),
+        "let ListHandle { at, alloc } = self;": (
+            "let ListHandle { at, alloc } = *core::mem::ManuallyDrop::new(self);"
+        ),
+    },
+    "kept_pages/page.rs": {
+        "fn drop(self)": "fn drop(&mut self)",
+        """let KeptPage {
+            kind: _kind,
+            kept,
+            alloc,
+        } = self;""": "let (kept, alloc) = (self.kept.take(), self.alloc);",
+    },
+    "kept_pages/handle.rs": {
+        "fn drop(self)": "fn drop(&mut self)",
+        "drop(self.into_box())": (
+            "drop(core::mem::replace(self, PageHandle::none(self.alloc)).into_box())"
+        ),
+        "let PageHandle { at, alloc } = self;": (
+            "let PageHandle { at, alloc } = *core::mem::ManuallyDrop::new(self);"
+        ),
+    },
 }
 TOKEN = re.compile(
     r"""(?P<comment>//[^\n]*)
@@ -132,6 +175,10 @@ class Eraser:
             if not found:
                 raise self.refuse("this form of `ghost`")
             end = self.skip_group(found.end(), "}")
+            # By which code the logic stores a value of its type.
+            found = re.compile(r"\s*by\s+(?=\{)").match(self.text, end)
+            if found:
+                end = self.skip_group(found.end(), "}")
             found = re.compile(r"\s*[;,]|(?=\s*[})])").match(self.text, end)
             if not found:
                 raise self.refuse("what follows an item of `ghost`")
@@ -208,7 +255,7 @@ def without_examples(text: str) -> str:
         lines = [it.strip()[3:].removeprefix(" ") for it in block.splitlines()]
         joined = re.sub(r"(?ms)^```.*?^```$", "```", "\n".join(lines))
         parts = [it for it in joined.split("\n\n") if it.strip()]
-        kept = [it for it in parts if not re.search(r"```|<!--|Rattle|specs/|\brt;", it)]
+        kept = [it for it in parts if not re.search(r"```|<!-- |Rattle|specs/|\brt;", it)]
         kept = [it[:-1] + "." if it.endswith(":") else it for it in kept]
         rows = "\n\n".join(kept).split("\n")
         out.append("".join(f"{mark[0]} {row}".rstrip() + "\n" for row in rows) if kept else "")
@@ -221,7 +268,7 @@ def erased(path: Path) -> str:
     if re.search(r"&&\s*let\b|\b(if|while) let\b[^{;]*&&", text):
         raise Unknown(f"{path.relative_to(TOP)}: a condition with `let` and `&&` needs Rust 1.88")
     # A bound that every type meets.
-    text = re.sub(r"\bDrop\b", "Sized", text)
+    text = re.sub(r"(?<!\bimpl )\bDrop\b", "Sized", text)
     return re.sub(r"\n\s*\n(\s*\n)+", "\n\n", re.sub(r"[ \t]+\n", "\n", text))
 
 
@@ -250,7 +297,7 @@ def with_twins(text: str) -> str:
 def with_pointers(text: str) -> str:
     """Returns a source whose exported functions take a slice as a pointer and a length, as Rattle's
     do, and structures of slices likewise."""
-    head = re.compile(r'pub extern "C" fn (\w+)\(([^)]*)\) -> u32 \{\n')
+    head = re.compile(r'pub extern "C" fn (\w+)\(([^)]*)\)( -> u32)? \{\n')
 
     def exported(found: "re.Match[str]") -> str:
         parameters, lines = [], []
@@ -278,7 +325,7 @@ def with_pointers(text: str) -> str:
             else:
                 parameters.append(f"{name}: {kind}")
         return (
-            f'pub extern "C" fn {found[1]}({", ".join(parameters)}) -> u32 {{\n    '
+            f'pub extern "C" fn {found[1]}({", ".join(parameters)}){found[3] or ""} {{\n    '
             + "\n    ".join(lines)
             + "\n"
         )
@@ -293,8 +340,7 @@ def placed(text: str, crate: str, crates: List[str]) -> str:
     text = re.sub(r"(?<![\w:$])crate::(?!rattle_std::)", f"crate::erased::{crate}::", text)
     text = re.sub(rf"(?<![\w:$])({'|'.join(crates)})::", r"crate::erased::\1::", text)
     text = re.sub(r"(?<![\w:$])log::", "crate::rattle_log::", text)
-    for name in ("to_ascii_lowercase", "to_string"):
-        text = text.replace(f".{name}(alloc)", f".{name}_in(alloc)")
+    text = re.sub(r"\.(to_ascii_lowercase|to_string)\(((?:\w+\.)?alloc)\)", r".\1_in(\2)", text)
     text = re.sub(r"\bformat!\(in ", "crate::rattle_std::string::format_in!(", text)
     text = re.sub(r"\bvec!\[in ", "crate::rattle_std::vec::vec_in![", text)
     lines = text.split("\n")
@@ -313,10 +359,11 @@ def placed(text: str, crate: str, crates: List[str]) -> str:
 
 def changed(text: str, name: str) -> str:
     """Returns a source with what `CHANGED` says of it."""
-    old, new = CHANGED.get(name, ("", ""))
-    if old and text.count(old) != 1:
-        raise Unknown(f"{name}: erase.py does not find `{old}`")
-    return text.replace(old, new) if old else text
+    for old, new in CHANGED.get(name, {}).items():
+        if text.count(old) != 1:
+            raise Unknown(f"{name}: erase.py does not find `{old}`")
+        text = text.replace(old, new)
+    return text
 
 
 def uses_of() -> Dict[str, List[str]]:
@@ -384,16 +431,36 @@ def write_package(package: Package, to: Path) -> None:
         shutil.copy(text, to)
 
 
+def state(to: Path, is_own: bool) -> None:
+    """Writes into the crate's manifest what python/pyproject.toml states. A crate of its own has its
+    name and version, and a library of the name that programs use."""
+    stated, path = metadata.read_metadata(), to / "Cargo.toml"
+    text = path.read_text(encoding="utf-8")
+    more = f'repository = "{stated.repository}"\n' if stated.repository else ""
+    if stated.authors:
+        more += f"authors = {json.dumps([str(it) for it in stated.authors])}\n"
+    text = text.replace("license = ", f"{more}license = ", 1)
+    if is_own:
+        text = re.sub(r"(?m)^# The crate whose .*\nhomepage = .*\n", "", text)
+        text = text.replace('name = "simplecss"', f'name = "{stated.crate}"', 1)
+        text = re.sub(r'(?m)^version = ".*"', f'version = "{stated.version}"', text, count=1)
+        text = text.replace("[features]", '[lib]\nname = "simplecss"\n\n[features]', 1)
+    path.write_text(text, encoding="utf-8")
+
+
 def main(words: List[str]) -> None:
     """Writes the package that the words name."""
-    package = LIBRARY if words[:1] == ["--c"] else RUST
-    folders = words[1:] if package is LIBRARY else words
+    option = words[0] if words[:1] in (["--c"], ["--publish"]) else ""
+    package = LIBRARY if option == "--c" else RUST
+    folders = words[1:] if option else words
     if len(folders) != 1 or folders[0].startswith("-"):
-        sys.exit("usage: tools/erase.py [--c] DIR")
+        sys.exit("usage: tools/erase.py [--c | --publish] DIR")
     try:
         write_package(package, Path(folders[0]))
     except Unknown as unknown:
         sys.exit(str(unknown))
+    if package is RUST:
+        state(Path(folders[0]), option == "--publish")
 
 
 if __name__ == "__main__":

@@ -34,6 +34,19 @@ No contract says that memory is left, or that a call with memory returns an `Ok`
 """
 QUOTES = (
     (
+        "Which declaration wins, by `winners_law`, a law of what `simplecss_winners` writes of an element"
+        " (`device_law`: on a device); `tools/believed.py` counts what it rests on:",
+        "crates/css_laws/src/headline.rt",
+        "ensures { (passed : PassedSheets) (limit : ℕ)",
+        7,
+    ),
+    (
+        "The definitions that it names:",
+        "crates/css_laws/specs/Headline.antt",
+        "-- The selector of a rule of the sheets, as the document reads it",
+        30,
+    ),
+    (
         "Matching, by `Selector::matches_counted`, which `matches` calls:",
         "crates/simplecss_selector/src/selector.rt",
         "ensures answer { IsTrue result ↔ HasPlacement",
@@ -58,12 +71,24 @@ GATHERED = {
         "ampersand_law",
         "chain_law",
     ),
+    "A selector with numbers matches exactly what it means as it was read.": ("meaning_law",),
+    "Rules are in the order of the cascade, and equal ones in that of the texts.": (
+        "source_order_law",
+        "pieces_law",
+    ),
     "A list of selectors is cut at its commas, and each reads as itself from where it begins.": (
         "places_law",
         "cut_law",
         "own_law",
     ),
     "What is rolled back does not win.": ("rollback_law",),
+    "Of each property of which a declaration counts exactly one wins.": (
+        "one_law",
+        "winners_law",
+        "styles_law",
+        "device_law",
+        "answer_law",
+    ),
     "Values are equal exactly if what contracts see of them is.": ("equality",),
     "Blanks and comments are what their definitions say, which do not mention reading.": (
         "blank",
@@ -87,7 +112,7 @@ CALLS = (
     ("what is skipped", "simplecss_grammar/src/quoting.rt"),
     ("hints", "simplecss/src/hints.rt"),
     ("places", "simplecss/src/place.rt"),
-    ("ready tree", "simplecss_tree/src/tree.rt"),
+    ("ready tree", "css_elements/src/tree.rt"),
     ("tree texts", "cssq_tree/src/tree.rt"),
     ("cascade", "cssq/src/cascade.rt"),
     ("commands", "cssq/src/runs.rt"),
@@ -100,8 +125,8 @@ CALLS = (
     ("tables of names", "css_values/src/names.rt"),
     ("media queries", "css_conditions/src/media.rt"),
     ("`@supports`", "css_conditions/src/supports.rt"),
-    ("reading modern selectors", "css_selectors/src/reading.rt"),
-    ("printing them", "css_selectors/src/printing.rt"),
+    ("reading modern selectors", "css_selector_text/src/reading.rt"),
+    ("printing them", "css_selector_text/src/printing.rt"),
     ("matching them", "css_selectors/src/matching.rt"),
     ("an index of them", "css_index/src/selector_index.rt"),
     ("a walk along a page", "css_index/src/selector_walk.rt"),

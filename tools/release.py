@@ -1,10 +1,12 @@
 #!/usr/bin/env python3
 """Makes what people without the toolchain install, from what ./build release has proved: Rust
-crate, wheels, tarball, Debian package, npm package, one page, and their sums.
+crates, wheels, source distribution, tarball, Debian package, npm package, one page, and their sums.
 
     release.py KIT [DIR]    KIT is the toolchain's folder; without DIR it writes to out/release
     release.py --npm DIR    the npm package and the page, without the toolchain and not proved:
                             cargo compiles the module from the erased sources
+    release.py --c DIR      so the C library: DIR/lib with what pkg-config and CMake read, DIR/include
+    release.py --erased DIR    all that cargo makes of the erased sources, without the toolchain
 
 The bytes are the same from two checkouts of one commit: names are sorted, and times are the
 commit's. What cannot be made, since a tool is missing, is named, and the status is 1.
@@ -19,6 +21,7 @@ import hashlib
 import io
 import json
 import os
+import platform
 import re
 import shutil
 import subprocess
@@ -27,10 +30,15 @@ import tarfile
 import tempfile
 import time
 import zipfile
+from collections import Counter
 from pathlib import Path
-from typing import Dict, List, NamedTuple, Optional, Tuple
+from typing import Callable, Dict, List, NamedTuple, Optional, Sequence, Tuple
 
 TOP = Path(__file__).resolve().parent.parent
+sys.path.insert(0, str(TOP))
+
+from tools import metadata
+
 PARTS = TOP / "release"
 BUILT = TOP / "crates/cssq_cli/out/rlib/build"
 LICENCES = sorted(TOP.glob("LICENSE-*"))
@@ -49,46 +57,82 @@ FLAGS = [
 ]
 # fmt: on
 
-# What makes the tree of a page, where it is installed.
-TREE_WRITER = "cssq-tree"
-# Of the Debian packages: who answers for them, and what each is.
-MAINTAINER = "The maintainers <maintainers@simplecss.example>"
+# What the Debian packages are.
 OF_PROGRAM = """proved library of style sheets and selectors, command line
  The program cssq prints selectors, style sheets, which rules match the elements
- of a tree, and which declarations win. The program cssq-tree writes the tree of
- a page."""
+ of a page or a tree, and which declarations win."""
 OF_LIBRARY = """proved library of style sheets and selectors
  It reads style sheets and selectors of modern CSS, matches the elements of a
  tree, and has no state."""
 OF_CALLERS = """proved library of style sheets and selectors, header
  The header and the static library, for programs in C and C++, with an example."""
-# The modules of the npm package that its page has in it, each after those that it uses, and one
-# that has the WebAssembly module.
+# The modules of the npm package that its page has in it, each after those that it uses; the first
+# two have the WebAssembly modules.
 MODULES = (
     "bytes",
+    "second_bytes",
     "library",
     "properties",
-    "names",
     "reading",
     "nested",
     "resolving",
     "tokens",
+    "comments",
+    "printing",
     "device",
+    "html",
     "tree",
     "winners",
+    "unused",
     "sheet",
-    "mistakes",
     "lint",
+    "clean",
 )
-# The names of the properties that browsers know, and the other names of CSS.
+# The names of the properties that browsers know.
 PROPERTIES = TOP / "python/src/simplecss/properties.txt"
-NAMES = PROPERTIES.with_name("names.txt")
-BYTES = """// The WebAssembly module.
-const packed = atob('%s');
-const bytes = new Uint8Array(packed.length);
-for (let at = 0; at < bytes.length; at += 1) bytes[at] = packed.charCodeAt(at);
-export default bytes;
+# The calls that are in the second WebAssembly module: those for texts that no page is asked about.
+SECOND = (
+    "clean",
+    "counterpart",
+    "dropped",
+    "inherited",
+    "lint",
+    "longhands",
+    "shorthands",
+    "valid_value",
+    "values",
+)
+FEATURES = (
+    "--enable-bulk-memory",
+    "--enable-sign-ext",
+    "--enable-mutable-globals",
+    "--enable-nontrapping-float-to-int",
+    "--enable-multivalue",
+)
+# A WebAssembly module as a text. Each letter stands for one of the bytes that are most of them, but
+# for the last two, which with the letter after them stand for another byte: so compression finds in
+# the text what it finds in the module.
+BYTES = """// A WebAssembly module, as a text.
+const letters = %s, single = %d, length = %d;
+const order = %s;
+const text = '%s';
+
+/** Returns the module. */
+function %s() {
+  const places = new Uint8Array(128), found = new Uint8Array(length);
+  [...letters].forEach((letter, place) => { places[letter.charCodeAt(0)] = place; });
+  for (let at = 0, to = 0; at < text.length; at += 1, to += 1) {
+    let place = places[text.charCodeAt(at)];
+    if (place >= single) place += (place - single) * (letters.length - 1) + places[text.charCodeAt(at += 1)];
+    found[to] = order[place];
+  }
+  return found;
+}
+
+export default %s;
 """
+LETTERS = "".join(chr(it) for it in range(32, 127) if chr(it) not in "'\\<")
+SINGLE = len(LETTERS) - 2
 
 
 class Missing(Exception):
@@ -141,11 +185,6 @@ def found_in(path: Path, pattern: str) -> str:
     return str(found)
 
 
-def read_version() -> str:
-    """Returns the version, which the header states."""
-    return found_in(TOP / "include/simplecss.h", r'SIMPLECSS_VERSION "(.*)"')
-
-
 def read_soname() -> str:
     """Returns the name by which programs load the library, which `build` states."""
     return found_in(TOP / "build", r'SONAME = "(.*)"')
@@ -161,7 +200,7 @@ def replaced(text: str, values: Dict[str, str]) -> str:
 def of_installed(page: str) -> str:
     """Returns the page on the program for those who have it installed, without what it says of a
     checkout."""
-    page = replaced(page, {"./cssq": "cssq", "tools/html_tree.py": TREE_WRITER})
+    page = replaced(page, {"./cssq": "cssq"})
     page = re.sub(r"(?m)^The script `cssq` .*\n(?:.+\n)*\n", "", page)
     return re.sub(r"(?m)^\| 127, other \|.*\n", "", page)
 
@@ -185,7 +224,12 @@ class Release:
     def __init__(self, kit: Path, to: Path, room: Path) -> None:
         self.kit, self.to, self.room = kit, to, room
         self.tools = kit / "toolchain/bin"
-        self.version, self.when, self.soname = read_version(), commit_time(), read_soname()
+        self.project, self.when, self.soname = (
+            metadata.read_metadata(),
+            commit_time(),
+            read_soname(),
+        )
+        self.version = self.project.version
 
     def shared(self, *words: object) -> None:
         """Links a shared library of these words: with no names but those of the calls."""
@@ -234,16 +278,15 @@ class Release:
 
     # ---- Rust
 
-    def make_crate(self) -> None:
-        """Writes the erased crate."""
-        folder = self.room / "crate"
-        run(sys.executable, TOP / "tools/erase.py", folder)
-        files = [
-            File(str(it.relative_to(folder)), it.read_bytes())
-            for it in folder.rglob("*")
-            if it.is_file()
-        ]
-        self.write("simplecss-0.2.2.crate", self.tarred(files, "simplecss-0.2.2/"))
+    def make_crates(self) -> None:
+        """Writes the erased crate in place of that of others, and the same under a name of its own."""
+        for name, options in (
+            ("simplecss-0.2.2", ()),
+            (f"{self.project.crate}-{self.version}", ("--publish",)),
+        ):
+            folder = self.room / name
+            run(sys.executable, TOP / "tools/erase.py", *options, folder)
+            self.write(f"{name}.crate", self.tarred(files_of(folder), f"{name}/"))
 
     # ---- the library for other machines
 
@@ -278,6 +321,7 @@ class Release:
         for source in (self.module_for(triple), PARTS / "c/heap.ll"):
             objects.append(self.room / (source.stem + ".o"))
             run(*words, "-c", "-x", "ir", source, "-o", objects[-1])
+        objects.append(self.division(f"--target={triple}"))
         self.shared(f"--target={triple}", "-Wl,--gc-sections", "-o", made, *objects)
         return made.read_bytes()
 
@@ -292,8 +336,15 @@ class Release:
         """Returns the shared library for x86-64."""
         made = self.room / "x86.so"
         whole = ("-Wl,--whole-archive", BUILT / "simplecss_c.a", "-Wl,--no-whole-archive")
-        self.shared("-o", made, *whole, self.kit / "c/liblibc_c.a")
+        self.shared("-o", made, *whole, self.division(), self.kit / "c/liblibc_c.a")
         return made.read_bytes()
+
+    def division(self, *words: str) -> Path:
+        """Returns an object with the divisions that the compiler calls, compiled with these words."""
+        made = self.room / "division.o"
+        fixed = [*FLAGS, "-fPIC", "-ffreestanding", "-fno-builtin", "-c"]
+        run(self.tools / "clang", *words, *fixed, PARTS / "c/division.c", "-o", made)
+        return made
 
     def make_wheel(self, tags: Tuple[str, ...], library: bytes) -> None:
         """Writes a wheel with this library."""
@@ -306,15 +357,13 @@ class Release:
                 *package.glob("*.css"),
                 package / "py.typed",
                 PROPERTIES,
-                NAMES,
             )
         }
         files["simplecss/libsimplecss.so"] = library
         files.update({f"{info}licenses/{it.name}": it.read_bytes() for it in LICENCES})
         files[info + "METADATA"] = self.metadata().encode()
-        files[
-            info + "entry_points.txt"
-        ] = b"[console_scripts]\nsimplecss = simplecss.__main__:main\n"
+        scripts = "".join(f"{name} = {call}\n" for name, call in self.project.scripts.items())
+        files[info + "entry_points.txt"] = f"[console_scripts]\n{scripts}".encode()
         lines = ["Wheel-Version: 1.0", "Generator: tools/release.py", "Root-Is-Purelib: false"]
         files[info + "WHEEL"] = "".join(
             f"{it}\n" for it in (*lines, *(f"Tag: py3-none-{it}" for it in tags))
@@ -332,22 +381,39 @@ class Release:
         self.write(f"simplecss-{self.version}-py3-none-{'.'.join(tags)}.whl", out.getvalue())
 
     def metadata(self) -> str:
-        """Returns the wheel's metadata, which pyproject.toml states."""
-        stated = TOP / "python/pyproject.toml"
-        summary = found_in(stated, r'description = "(.*)"')
-        classifiers = re.findall(r'"(.*)"', found_in(stated, r"(?s)classifiers = \[(.*?)\]"))
+        """Returns the metadata of a wheel or a source distribution."""
+        stated = self.project
         lines = [
             "Metadata-Version: 2.4",
             "Name: simplecss",
             f"Version: {self.version}",
-            f"Summary: {summary}",
-            "License-Expression: MIT OR Apache-2.0",
+            f"Summary: {stated.summary}",
+            f"Keywords: {','.join(stated.keywords)}",
+            *(f"Author-email: {it}" if it.email else f"Author: {it.name}" for it in stated.authors),
+            f"License-Expression: {stated.licence}",
             *(f"License-File: {it.name}" for it in LICENCES),
-            *(f"Classifier: {it}" for it in classifiers),
-            "Requires-Python: >=3.9",
+            *(f"Project-URL: {label}, {url}" for label, url in stated.urls.items()),
+            *(f"Classifier: {it}" for it in stated.classifiers),
+            f"Requires-Python: {stated.python}",
+            *(f"Provides-Extra: {it}" for it in stated.extras),
+            *(
+                f'Requires-Dist: {it} ; extra == "{extra}"'
+                for extra, names in stated.extras.items()
+                for it in names
+            ),
             "Description-Content-Type: text/markdown",
         ]
         return "\n".join(lines) + "\n\n" + (TOP / "python/README.md").read_text()
+
+    def make_sdist(self) -> None:
+        """Writes the source distribution, which cargo compiles on any system."""
+        name = f"simplecss-{self.version}"
+        words = ["setup.py", "-q", "sdist", "--formats=gztar", "--dist-dir", self.room / "sdist"]
+        run(packer(), *words, cwd=TOP / "python")
+        with tarfile.open(self.room / f"sdist/{name}.tar.gz") as packed:
+            packed.extractall(self.room)
+        (self.room / name / "PKG-INFO").write_text(self.metadata(), encoding="utf-8")
+        self.write(f"{name}.tar.gz", self.tarred(files_of(self.room / name), f"{name}/"))
 
     # ---- the program
 
@@ -381,40 +447,32 @@ class Release:
         summary = "CSS 2.1 selectors, style sheets and matching"
         return self.manual("cssq", summary, "[command operand..]", text)
 
-    def manual_of_trees(self) -> bytes:
-        """Returns the page on cssq-tree: what the tool's source says."""
-        text = found_in(TOP / "tools/html_tree.py", r'(?s)\A#!.*?\n"""(.*?)"""')
-        text = text.replace("html_tree.py", TREE_WRITER)
-        return self.manual(TREE_WRITER, "trees of pages for cssq", "[file]", text)
-
     def of_program(self) -> List[File]:
-        """Returns the files of the program, and of what makes the tree of a page, below a
-        prefix."""
-        tool, package = "share/cssq/tools/html_tree.py", TOP / "python/src/simplecss"
+        """Returns the files of the program below a prefix."""
         page = (TOP / "docs/PROGRAM.md").read_text(encoding="utf-8")
         return [
             File("bin/cssq", self.program(), 0o755),
-            File(f"bin/{TREE_WRITER}", b"", link=f"../{tool}"),
-            File(tool, (TOP / "tools/html_tree.py").read_bytes(), 0o755),
-            *(
-                File(f"share/cssq/python/src/{it.relative_to(package.parent)}", it.read_bytes())
-                for it in package.rglob("*.py")
-            ),
             File("share/bash-completion/completions/cssq", (PARTS / "pack/cssq.bash").read_bytes()),
             File("share/doc/cssq/PROGRAM.md", of_installed(page).encode()),
             File("share/man/man1/cssq.1.gz", self.manual_of_program()),
-            File(f"share/man/man1/{TREE_WRITER}.1.gz", self.manual_of_trees()),
         ]
 
     def of_library(self, lib: str) -> List[File]:
         """Returns the shared library in this folder below a prefix."""
         return [File(f"{lib}/{self.soname}", self.library())]
 
+    def archive(self) -> bytes:
+        """Returns the static library."""
+        return (TOP / "out/libsimplecss.a").read_bytes()
+
     def for_callers(self, lib: str, doc: str) -> List[File]:
         """Returns what programs over the library are compiled with, in these folders below a
         prefix."""
         up = "/".join([".."] * len(lib.split("/")))
-        stated = found_in(TOP / "build", r'(?s)PKG_CONFIG = """(.*?)"""').format(
+        stated = replaced(
+            found_in(TOP / "build", r'(?s)PKG_CONFIG = """(.*?)"""'),
+            {"Version:": f"URL: {self.project.repository}\nVersion:"} if self.project.urls else {},
+        ).format(
             lib="${pcfiledir}/..", include=f"${{pcfiledir}}/../{up}/include", version=self.version
         )
         values = {
@@ -423,8 +481,11 @@ class Release:
             "@VERSION@": self.version,
         }
         return [
-            File("include/simplecss.h", (TOP / "include/simplecss.h").read_bytes()),
-            File(f"{lib}/libsimplecss.a", (TOP / "out/libsimplecss.a").read_bytes()),
+            *(
+                File(f"include/{it.name}", it.read_bytes())
+                for it in sorted((TOP / "include").glob("simplecss.h*"))
+            ),
+            File(f"{lib}/libsimplecss.a", self.archive()),
             File(f"{lib}/libsimplecss.so", b"", link=self.soname),
             File(f"{lib}/pkgconfig/simplecss.pc", stated.encode()),
             *(
@@ -454,7 +515,7 @@ class Release:
         library = f"libsimplecss{number}"
         self.make_package(
             "cssq",
-            {"Depends": "python3", "Section": "web", "Description": OF_PROGRAM},
+            {"Section": "web", "Description": OF_PROGRAM},
             self.of_program(),
             alone="bin/cssq",
         )
@@ -485,13 +546,14 @@ class Release:
         alone: str = "",
     ) -> None:
         """Writes a Debian package of files below `/usr`, of which one may need no other library."""
-        log = f"simplecss ({self.version}) unstable; urgency=medium\n\n  * A release.\n\n"
-        log += f" -- {MAINTAINER}  {email.utils.formatdate(self.when)}\n"
-        files = [
-            *files,
-            File(f"share/doc/{name}/changelog.gz", self.packed(log.encode())),
-            File(f"share/doc/{name}/copyright", copyright_of_package().encode()),
-        ]
+        files = [*files, File(f"share/doc/{name}/copyright", copyright_of_package().encode())]
+        for author in self.project.authors[:1]:
+            log = f"simplecss ({self.version}) unstable; urgency=medium\n\n  * A release.\n\n"
+            log += f" -- {author}  {email.utils.formatdate(self.when)}\n"
+            files.append(File(f"share/doc/{name}/changelog.gz", self.packed(log.encode())))
+            fields = {"Maintainer": str(author), **fields}
+        if self.project.repository:
+            fields = {"Homepage": self.project.repository, **fields}
         if alone:
             line = f"{name}: shared-library-lacks-prerequisites [usr/{alone}]\n"
             files.append(File(f"share/lintian/overrides/{name}", line.encode()))
@@ -500,7 +562,6 @@ class Release:
             "Source": "simplecss",
             "Version": self.version,
             "Architecture": "amd64",
-            "Maintainer": MAINTAINER,
             "Installed-Size": str(sum(len(it.data) + 1023 for it in files) // 1024),
             "Priority": "optional",
             **fields,
@@ -535,12 +596,13 @@ class Release:
 
     def make_npm(self) -> None:
         """Writes the npm package, and the page with all in it."""
-        files = npm_files(self.webassembly())
+        files = npm_files(*self.webassembly())
         self.write(f"simplecss-{self.version}.tgz", self.tarred(files, "package/"))
         self.write("playground.html", playground(files))
 
-    def webassembly(self) -> bytes:
-        """Returns the library as WebAssembly with a memory of 32 bits, which every engine runs."""
+    def webassembly(self) -> Tuple[bytes, bytes]:
+        """Returns the library as two modules of WebAssembly with one memory of 32 bits, which every
+        engine runs."""
         optimizer, triple = need("wasm-opt"), "wasm64-unknown-unknown"
         clang, linker = self.tools / "clang", self.room / "wasm-ld"
         words = [clang, f"--target={triple}", "-mcpu=lime1", "-mbulk-memory", "--no-default-config"]
@@ -561,10 +623,6 @@ class Release:
         # The toolchain's linker is every linker, by its name.
         linker.unlink(missing_ok=True)
         linker.symlink_to(clang)
-        calls = re.findall(
-            r"(?m)^uint32_t (simplecss_\w+)\(", (TOP / "include/simplecss.h").read_text()
-        )
-        exports = [f"--export={it}" for it in calls]
         whole, lowered = self.room / "whole.wasm", self.room / "lowered.wasm"
         run(
             linker,
@@ -574,48 +632,107 @@ class Release:
             "-z",
             "stack-size=1048576",
             "--gc-sections",
-            *exports,
+            *(f"--export={it}" for it in calls_of_header()),
             "-o",
             whole,
             self.room / "library.o",
             self.room / "runtime.o",
         )
         whole.write_bytes(without_table(whole.read_bytes()))
-        run(
-            optimizer,
-            whole,
-            "--enable-memory64",
-            "--enable-bulk-memory",
-            "--enable-sign-ext",
-            "--enable-mutable-globals",
-            "--enable-nontrapping-float-to-int",
-            "--enable-multivalue",
-            "--memory64-lowering",
-            "-Oz",
-            "-o",
-            lowered,
-        )
-        return lowered.read_bytes()
+        lower = ("--enable-memory64", *FEATURES, "--memory64-lowering", "--debuginfo")
+        run(optimizer, whole, *lower, "-o", lowered)
+        return parted(lowered, ("simplecss_high",), self.room)
 
 
-def npm_files(module: bytes) -> List[File]:
-    """Returns the files of the npm package with this module."""
+def calls_of_header() -> List[str]:
+    """Returns the names of the calls of the C library."""
+    header = (TOP / "include/simplecss.h").read_text()
+    return re.findall(r"(?m)^(?:uint32_t|void) (simplecss_\w+)\(", header)
+
+
+def parted(whole: Path, others: Sequence[str], room: Path) -> Tuple[bytes, bytes]:
+    """Returns a module whose functions have names as two that share its memory. The second one has
+    what only its calls use, and is loaded when one of them is called. `others` are exported beside
+    the calls and what passes texts."""
+    optimizer, splitter, trimmer = map(need, ("wasm-opt", "wasm-split", "wasm-metadce"))
+    second = [f"simplecss_{it}" for it in SECOND]
+    calls = [it for it in calls_of_header() if it not in second]
+    kept = [*calls, "simplecss_take", "simplecss_reset", *others, "memory"]
+    graph, trimmed = room / "graph.json", room / "trimmed.wasm"
+    nodes = [{"name": it, "export": it, "root": True} for it in kept]
+    graph.write_text(json.dumps(nodes))
+    run(trimmer, whole, *FEATURES, "--graph-file", graph, "--debuginfo", "-o", trimmed)
+    names = room / "names"
+    run(optimizer, trimmed, *FEATURES, f"--symbolmap={names}", "-o", room / "unused.wasm")
+    listed = [it.partition(":")[2] for it in names.read_text().splitlines()]
+    names.write_text("\n".join(listed))
+    parts = room / "first.wasm", room / "second.wasm"
+    to = ("-o1", parts[0], "-o2", parts[1], "--export-prefix=%")
+    run(splitter, whole, *FEATURES, f"--keep-funcs=@{names}", *to)
+    for part in parts:
+        small = ("--strip-debug", "--strip-producers", "-Oz")
+        run(optimizer, part, *FEATURES, *small, "-o", part)
+    return parts[0].read_bytes(), parts[1].read_bytes()
+
+
+def module_as_text(module: bytes, name: str) -> bytes:
+    """Returns the module of JavaScript whose function of this name returns a WebAssembly module."""
+    counted = Counter(module)
+    order = sorted(range(256), key=lambda it: (-counted[it], it))
+    rest = [left + right for left in LETTERS[SINGLE:] for right in LETTERS]
+    letters = dict(zip(order, [*LETTERS[:SINGLE], *rest]))
+    text = "".join(map(letters.__getitem__, module))
+    words = (json.dumps(LETTERS), SINGLE, len(module), json.dumps(order), text, name, name)
+    return (BYTES % words).encode()
+
+
+def npm_files(first: bytes, second: bytes) -> List[File]:
+    """Returns the files of the npm package with these modules."""
     parts = PARTS / "npm"
-    stated = json.loads((parts / "package.json").read_text())
-    stated["version"] = read_version()
-    return [
+    files = [
         *(
             File(it.name, it.read_bytes(), 0o755 if it.name == "cli.mjs" else 0o644)
             for it in parts.iterdir()
             if it.suffix in (".mjs", ".ts", ".md")
         ),
-        File("package.json", (json.dumps(stated, indent=2) + "\n").encode()),
-        File("simplecss.wasm", module),
-        File("bytes.mjs", (BYTES % base64.b64encode(module).decode()).encode()),
+        File("package.json", manifest(parts / "package.json").encode()),
+        File("simplecss.wasm", first),
+        File("second.wasm", second),
+        File("bytes.mjs", module_as_text(first, "bytes")),
+        File("second_bytes.mjs", module_as_text(second, "secondBytes")),
         File("properties.mjs", module_of(PROPERTIES.read_text()).encode()),
-        File("names.mjs", names_module(NAMES.read_text()).encode()),
+        File("index.d.cts", (parts / "index.d.ts").read_bytes()),
         *(File(it.name, it.read_bytes()) for it in LICENCES),
     ]
+    return [*files, File("index.cjs", required_module(files).encode())]
+
+
+def manifest(path: Path) -> str:
+    """Returns the manifest of the npm package, with what python/pyproject.toml states."""
+    stated, fields = metadata.read_metadata(), json.loads(path.read_text())
+    fields.update(version=stated.version, license=stated.licence, keywords=stated.keywords)
+    if stated.repository:
+        fields["repository"] = {"type": "git", "url": stated.repository}
+    if stated.authors:
+        fields["author"] = str(stated.authors[0])
+    return json.dumps(fields, indent=2) + "\n"
+
+
+def required_module(files: List[File]) -> str:
+    """Returns the module that `require` of node loads: all in one, but for the WebAssembly modules,
+    which it reads from the files beside it when they are called."""
+    by_name = {it.name: it.data.decode() for it in files if it.name.endswith(".mjs")}
+    stated = by_name["first.mjs"] + by_name["second.mjs"]
+    listed = re.findall(r"(?m)^export \{ (.*) \} from", stated)
+    names = ", ".join(sorted(name for each in listed for name in each.split(", ")))
+    code = "".join(scoped(by_name[f"{it}.mjs"]) for it in MODULES if not it.endswith("bytes"))
+    return (
+        f"'use strict';\n{code}"
+        "const read = name => require('node:fs').readFileSync(require('node:path').join(__dirname, name));\n"
+        "provide({ first: () => read('simplecss.wasm'), second: () => read('second.wasm') });\n"
+        f"Object.defineProperty(exports, '__esModule', {{ value: true }});\n"
+        f"Object.assign(exports, {{ {names} }}, {{ default: {{ {names} }} }});\n"
+    )
 
 
 def scoped(module: str) -> str:
@@ -632,30 +749,147 @@ def playground(files: List[File]) -> bytes:
     """Returns the page with the modules of the npm package in it."""
     by_name = {it.name: it.data for it in files}
     code = "".join(scoped(by_name[f"{it}.mjs"].decode()) for it in MODULES)
-    code += "start(new WebAssembly.Module(bytes));\n"
+    code += "provide({ first: bytes, second: secondBytes });\n"
     page = (PARTS / "npm/playground.html").read_text().replace("// THE LIBRARY\n", code)
     return page.encode()
 
 
-def erased_module(room: Path) -> bytes:
-    """Returns the library that cargo makes of the erased sources for WebAssembly."""
+def erased_modules(room: Path) -> Tuple[bytes, bytes]:
+    """Returns the library that cargo makes of the erased sources for WebAssembly, as two modules."""
+    need("wasm-split")
     crate, target = room / "crate", "wasm32-unknown-unknown"
     run(sys.executable, TOP / "tools/erase.py", "--c", crate)
     words = ["--release", "--offline", "--features", "bits32", "--target", target]
-    words += ["--target-dir", str(room), "--config", "profile.release.strip=true"]
-    run(need("cargo"), "build", *words, cwd=crate)
-    return (room / target / "release/simplecss.wasm").read_bytes()
+    words += ["--target-dir", str(room), "--config", "profile.release.strip=false"]
+    command = [need("cargo"), "build", *words]
+    done = subprocess.run(command, cwd=crate, capture_output=True, text=True, check=False)
+    if "E0463" in done.stderr:
+        raise Missing(f"{target} among the targets of Rust (rustup target add {target})")
+    if done.returncode:
+        sys.exit(f"tools/release.py: cargo failed: {done.stderr[-2000:]}")
+    return parted(room / target / "release/simplecss.wasm", ("simplecss_is_erased",), room)
+
+
+class Erased(Release):
+    """What cargo makes of the erased sources, with nothing proved."""
+
+    def __init__(self, to: Path, room: Path) -> None:
+        super().__init__(Path(), to, room)
+        self.built: Optional[Path] = None
+
+    def folder(self) -> Path:
+        """Returns where cargo has built the C library, whose shared one has its name in it."""
+        if self.built is None:
+            crate, target = self.room / "c", self.room / "target"
+            run(sys.executable, TOP / "tools/erase.py", "--c", crate)
+            words = ["rustc", "--release", "--offline", "--lib", "--target-dir", target]
+            words += ["--config", "profile.release.strip=true", "--"]
+            named = f"link-arg=-Wl,-soname,{self.soname}"
+            run(need("cargo"), *words, "-C", named, cwd=crate)
+            self.built = target / "release"
+        return self.built
+
+    def library(self) -> bytes:
+        """Returns the shared library."""
+        return (self.folder() / "libsimplecss.so").read_bytes()
+
+    def archive(self) -> bytes:
+        """Returns the static library."""
+        return (self.folder() / "libsimplecss.a").read_bytes()
+
+    def make_wheels(self) -> None:
+        """Writes a wheel for this machine: it runs where the C library is as new as what it
+        imports of it."""
+        library = self.library()
+        major, minor = needed_glibc(library)
+        self.make_wheel((f"manylinux_{major}_{minor}_{platform.machine()}",), library)
+
+    def of_prefix(self) -> List[File]:
+        """Returns the C library with what its callers need, below a prefix."""
+        texts = [
+            File("share/doc/simplecss/copyright", b"\n".join(it.read_bytes() for it in LICENCES))
+        ]
+        return [*self.of_library("lib"), *self.for_callers("lib", "simplecss"), *texts]
+
+    def make_tarball(self) -> None:
+        """Writes the tarball of the C library."""
+        name = f"libsimplecss-{self.version}"
+        machine = platform.machine()
+        self.write(f"{name}-linux-{machine}.tar.gz", self.tarred(self.of_prefix(), f"{name}/"))
+
+    def webassembly(self) -> Tuple[bytes, bytes]:
+        """Returns the library as WebAssembly."""
+        return erased_modules(self.room)
+
+    def make(self) -> Dict[str, str]:
+        """Writes all, and returns what was not made and the tool that it needs."""
+        return made_by(
+            (self.make_crates, "the Rust crates"),
+            (self.make_wheels, "the wheel"),
+            (self.make_sdist, "the source distribution"),
+            (self.make_tarball, "the tarball"),
+            (self.make_npm, "the npm package and the page"),
+        )
+
+
+def needed_glibc(library: bytes) -> Tuple[int, int]:
+    """Returns the newest version of glibc of which a library imports a name."""
+    found = re.findall(rb"\0GLIBC_(\d+)\.(\d+)(?=[\0.])", library)
+    return max((int(major), int(minor)) for major, minor in found)
+
+
+def packer() -> str:
+    """Returns a Python that has what makes packages of Python."""
+    for python in (sys.executable, "/usr/bin/python3"):
+        words = [python, "-c", "import setuptools, wheel"]
+        if shutil.which(python) and not subprocess.run(words, capture_output=True).returncode:
+            return python
+    raise Missing("Python with setuptools and wheel")
+
+
+def files_of(folder: Path) -> List[File]:
+    """Returns the files in a folder, by their paths from it."""
+    return [
+        File(it.relative_to(folder).as_posix(), it.read_bytes())
+        for it in folder.rglob("*")
+        if it.is_file()
+    ]
+
+
+def write_files(files: List[File], to: Path) -> None:
+    """Writes files and links below a folder."""
+    for file in files:
+        path = to / file.name
+        path.parent.mkdir(parents=True, exist_ok=True)
+        path.unlink(missing_ok=True)
+        if file.link:
+            path.symlink_to(file.link)
+        else:
+            path.write_bytes(file.data)
+            path.chmod(file.mode)
 
 
 def make_erased_npm(to: Path) -> None:
     """Writes the npm package with a module that is not proved into a folder, and the page."""
     with tempfile.TemporaryDirectory() as room:
-        files = npm_files(erased_module(Path(room)))
-    to.mkdir(parents=True, exist_ok=True)
-    for file in files:
-        (to / file.name).write_bytes(file.data)
-        (to / file.name).chmod(file.mode)
-    (to / "playground.html").write_bytes(playground(files))
+        files = npm_files(*erased_modules(Path(room)))
+    write_files([*files, File("playground.html", playground(files))], to)
+
+
+def make_erased_c(to: Path) -> None:
+    """Writes the C library that cargo makes below a prefix, with what its callers need."""
+    with tempfile.TemporaryDirectory() as room:
+        write_files(Erased(to, Path(room)).of_prefix(), to)
+
+
+def make_erased(to: Path) -> None:
+    """Writes all that cargo makes into a folder."""
+    shutil.rmtree(to, ignore_errors=True)
+    to.mkdir(parents=True)
+    with tempfile.TemporaryDirectory() as room:
+        missing = Erased(to, Path(room)).make()
+    for what, tool in missing.items():
+        print(f"tools/release.py: {what}: not made, since there is no {tool}", file=sys.stderr)
 
 
 def module_of(lines: str) -> str:
@@ -667,22 +901,14 @@ def module_of(lines: str) -> str:
     return f"{words}export const properties = {json.dumps(names)};\n"
 
 
-def names_module(lines: str) -> str:
-    """Returns the module with the names of each section of their file."""
-    words = "".join(f"//{it[1:]}\n" for it in lines.splitlines() if it[:1] == "#")
-    parts = re.split(r"(?m)^\[(.*)\]$", re.sub(r"(?m)^#.*", "", lines))
-    names = {name: text.split() for name, text in zip(parts[1::2], parts[2::2])}
-    return f"{words}export const knownNames = {json.dumps(names)};\n"
-
-
 def digest_of(data: bytes) -> str:
     """Returns the sum of a file, as a wheel's record has it."""
     return base64.urlsafe_b64encode(hashlib.sha256(data).digest()).rstrip(b"=").decode()
 
 
 def without_table(module: bytes) -> bytes:
-    """Returns a module without its table, which has no elements, and without names: many engines
-    refuse a table of 64 bits."""
+    """Returns a module without its table, which has no elements: many engines refuse a table of
+    64 bits."""
 
     def number(at: int) -> Tuple[int, int]:
         value = shift = 0
@@ -699,29 +925,36 @@ def without_table(module: bytes) -> bytes:
         at = inner + size
         if kind == 9:
             sys.exit("tools/release.py: the module has elements of a table, which it would call")
-        if kind not in (0, 4):
+        if kind != 4:
             out += module[start:at]
     return bytes(out)
+
+
+def made_by(*makers: Tuple[Callable[[], None], str]) -> Dict[str, str]:
+    """Calls all, and returns what was not made and the tool that it needs."""
+    missing: Dict[str, str] = {}
+    for make, what in makers:
+        try:
+            make()
+        except Missing as lacking:
+            missing[what] = str(lacking)
+    return missing
 
 
 def main(kit: str, to: Path) -> int:
     """Makes all, and returns the status."""
     shutil.rmtree(to, ignore_errors=True)
     to.mkdir(parents=True)
-    missing: Dict[str, str] = {}
     with tempfile.TemporaryDirectory() as room:
         release = Release(Path(kit), to, Path(room))
-        for make, what in (
-            (release.make_crate, "the Rust crate"),
+        missing = made_by(
+            (release.make_crates, "the Rust crates"),
             (release.make_wheels, "the wheels"),
+            (release.make_sdist, "the source distribution"),
             (release.make_tarball, "the tarball"),
             (release.make_packages, "the Debian packages"),
             (release.make_npm, "the npm package and the page"),
-        ):
-            try:
-                make()
-            except Missing as lacking:
-                missing[what] = str(lacking)
+        )
     sums = "".join(
         f"{hashlib.sha256(it.read_bytes()).hexdigest()}  {it.name}\n" for it in sorted(to.iterdir())
     )
@@ -731,12 +964,14 @@ def main(kit: str, to: Path) -> int:
     return 1 if missing else 0
 
 
+WITHOUT = {"--npm": make_erased_npm, "--c": make_erased_c, "--erased": make_erased}
+
 if __name__ == "__main__":
-    if len(sys.argv) not in (2, 3) or sys.argv[1] == "--npm" and not sys.argv[2:]:
-        sys.exit("usage: tools/release.py KIT [DIR] | --npm DIR")
-    if sys.argv[1] == "--npm":
+    if len(sys.argv) not in (2, 3) or sys.argv[1] in WITHOUT and not sys.argv[2:]:
+        sys.exit("usage: tools/release.py KIT [DIR] | --npm DIR | --c DIR | --erased DIR")
+    if sys.argv[1] in WITHOUT:
         try:
-            make_erased_npm(Path(sys.argv[2]))
+            WITHOUT[sys.argv[1]](Path(sys.argv[2]))
         except Missing as lacking:
             sys.exit(f"tools/release.py: there is no {lacking}")
         sys.exit(0)
