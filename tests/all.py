@@ -1,20 +1,22 @@
 #!/usr/bin/env python3
-"""Every check of the repository. First `rt ci`: every proof from nothing, every test, every wrong
-body that must be refused, and the stored runs. Then the subjects of this folder, over the programs
+"""Every check of the repository. First `rt ci`: every proof from nothing, every test, the wrong
+bodies of must-fail/, and the stored runs. Then the subjects of this folder, over the programs
 that it has built: the program `cssq` with its words, files and streams, each request for memory
-refused, what the documents show, the scripts `cssq` and `build`, the C library with the Python
-package over it, and what people without the toolchain install. Only the crate of the C library is
-proved twice: `rt ci` keeps nothing of a static library.
+refused, the wrong bodies of two crates, what the documents show, the scripts `cssq` and `build`,
+the C library with the Python package over it, and what people without the toolchain install. Only
+the crate of the C library is proved twice: `rt ci` keeps nothing of a static library. What the proofs of
+each crate cost is printed after them, by `tools/costs.py`.
 
 As many subjects run side by side as there are processors, four at most. What one prints is shown
 whole when it ends, under a line with its name and how long it took.
 
 The last line is 'N passed, M failed', of all together, and the lines before it name what was left
-out, since a tool is missing. Where `CI` is set and it is root, it first installs the packages of
-Debian that the tests want.
+out, since a tool is missing, and the tests that failed. Where `CI` is set and it is root, it first
+installs the packages of Debian that the tests want.
 """
 from __future__ import annotations
 
+import glob
 import os
 import re
 import shutil
@@ -29,12 +31,14 @@ TOP = os.path.dirname(os.path.dirname(os.path.abspath(__file__)))
 # Each subject of this folder, and the crates of the programs that it runs. The longest comes first.
 SUBJECTS = (
     ("checkout", ("tests_driver",)),
+    ("mutants", ()),
     ("library", ()),
     ("refused", ("tests_refusals",)),
     ("program", ("cssq_cli",)),
     ("docs", ("cssq_cli",)),
     ("pages", ("cssq_cli",)),
     ("skipped", ("example_linter", "cssq_cli")),
+    ("port", ("tests_driver", "cssq_cli", "example_linter")),
     ("syntax", ("tests_driver",)),
     ("modern_selectors", ("tests_driver",)),
     ("namespaces", ()),
@@ -43,17 +47,30 @@ SUBJECTS = (
     ("cascade", ()),
     ("script", ()),
     ("library_calls", ()),
+    ("tables", ()),
     ("hostile", ()),
     ("states", ()),
     ("html_states", ()),
+    ("sieve", ()),
+    ("encodings", ()),
     ("sheets", ()),
     ("printed", ()),
     ("conditions", ()),
     ("tokens", ()),
     ("values", ()),
+    ("known_values", ()),
+    ("errors", ()),
+    ("user_agent", ()),
     ("judges", ()),
     ("grammars", ()),
     ("trees", ()),
+    ("html_tokens", ("tests_html",)),
+    ("clean", ()),
+    ("html_trees", ()),
+    ("quick_tests", ()),
+    ("steps", ()),
+    ("publish", ()),
+    ("inherited", ()),
     ("release", ("tests_driver",)),
 )
 # What runs alone, at the end: it proves with all processors, and builds in `out/`.
@@ -65,14 +82,16 @@ CRATES = sorted({crate for _, crates in SUBJECTS for crate in crates})
 # What tests want of Debian and work without, but for what they then leave out.
 # fmt: off
 PACKAGES = (
-    "librust-roxmltree-dev", "librust-log-dev", "nodejs", "node-parse5", "node-typescript",
+    "librust-roxmltree-dev", "librust-log-dev", "nodejs", "node-parse5", "node-domhandler", "node-typescript",
     "esbuild", "binaryen", "lld", "python3-venv", "python3-setuptools", "python3-wheel", "gcc",
     "g++", "libc6-dev", "make", "cmake", "pkg-config",
     "python3-tinycss2", "python3-soupsieve", "python3-bs4", "python3-html5lib", "python3-lxml",
-    "mypy", "black", "xz-utils", "chromium",
+    "mypy", "black", "xz-utils", "chromium", "valgrind", "python3-sphinx", "python3-myst-parser", "furo",
 )
 # fmt: on
 LEFT_OUT = b"left out: "
+# How `unittest` names a test that failed.
+FAULTS = (b"FAIL: ", b"ERROR: ")
 STREAMS: Dict[str, Any] = {"stdin": subprocess.DEVNULL, "stderr": subprocess.STDOUT}
 
 
@@ -88,10 +107,12 @@ class Totals:
     def __init__(self) -> None:
         self.passed = self.failed = 0
         self.left_out: List[bytes] = []
+        self.faults: List[bytes] = []
 
     def fail(self, line: str) -> None:
         """Counts a check that could not be made, and prints why."""
         self.failed += 1
+        self.faults.append(line.encode())
         print(f"tests/all.py: {line}", flush=True)
 
     def run(self, words: Sequence[str], what: str) -> None:
@@ -105,9 +126,11 @@ class Totals:
         self.add(what, b"".join(output), child.returncode)
 
     def add(self, what: str, output: bytes, status: int) -> None:
-        """Adds the counts of the last line that a command has printed, and what it left out."""
+        """Adds the counts of the last line that a command has printed, what it left out, and the
+        tests that failed."""
         lines = [line.strip() for line in output.splitlines() if line.strip()]
         self.left_out += [line for line in lines if line.startswith(LEFT_OUT)]
+        self.faults += [line for line in lines if line.startswith(FAULTS)]
         counts = re.fullmatch(rb"(\d+) passed, (\d+) failed", lines[-1] if lines else b"")
         if counts:
             self.passed += int(counts[1])
@@ -118,8 +141,8 @@ class Totals:
             )
 
     def end(self) -> int:
-        """Prints what was left out and the last line. Returns the exit status."""
-        for line in self.left_out:
+        """Prints what was left out, what failed, and the last line. Returns the exit status."""
+        for line in [*self.left_out, *self.faults]:
             print(line.decode(errors="replace"))
         print(f"{self.passed} passed, {self.failed} failed")
         return 1 if self.failed else 0
@@ -230,6 +253,22 @@ def install() -> List[bytes]:
     return lines
 
 
+def prove(totals: Totals) -> None:
+    """Runs `rt ci`, and shows how long processors worked for the proofs of each crate."""
+    costs, log = os.path.join(TOP, "tools", "costs.py"), os.path.join(TOP, "out", "costs.log")
+    os.makedirs(os.path.dirname(log), exist_ok=True)
+    if os.path.exists(log):
+        os.remove(log)
+    words = [sys.executable, costs, "--watch", log, str(os.getpid())]
+    watch = subprocess.Popen(words, stdin=subprocess.DEVNULL)
+    try:
+        totals.run(["rt", "ci"], "rt ci")
+    finally:
+        watch.terminate()
+        watch.wait()
+    subprocess.run([sys.executable, costs, log], stdin=subprocess.DEVNULL, check=False)
+
+
 def main() -> int:
     totals = Totals()
     totals.left_out += install()
@@ -237,11 +276,14 @@ def main() -> int:
         # The subjects must not run the program of an earlier build.
         if os.path.exists(program_of(crate)):
             os.remove(program_of(crate))
+    for path in glob.glob(os.path.join(TOP, "crates", "*", "out", "rlib")):
+        # What stands there after `rt ci` is then what it has proved.
+        shutil.rmtree(path)
     # `rt ci` refuses a checkout with links, which unpacked packages have.
     shutil.rmtree(os.path.join(TOP, "out", "judges", "packages"), ignore_errors=True)
     if shutil.which("rt"):
         began = time.time()
-        totals.run(["rt", "ci"], "rt ci")
+        prove(totals)
         # What it has proved of the C library is not proved again.
         subprocess.run([os.path.join(TOP, "build"), "adopt", str(began)], cwd=TOP, check=False)
         words = [os.path.join(TOP, "build"), "library"]

@@ -7,18 +7,16 @@
     browser.py trees [FILE..]     the elements and attributes of `Tree.from_html` with those of the
                                   browser, and which are empty
     browser.py selectors          what random selectors find in random documents of HTML
-    browser.py winners [FILE..]   which declarations of ten properties win on each element
     browser.py links              the colours of random pages whose sheets are in files and import
                                   one another, before and after `inline`
     browser.py soup [FILE..]      what selectors find, with soupsieve over html5lib (no browser)
     browser.py unused [FILE..]    the selectors that match nothing on pages, beside what the browser finds
     browser.py reports [FILE..]   whether the browser takes what `lint` reports: at most one in 100
     browser.py printed [FILE..]   the rules of sheets, and of these as the package prints them
-    browser.py minified [FILE..]  the rules of sheets, and of these as `minify` writes them
 
-Without files, `mails` and `bare` take those of `tests/mails`, and `trees`, `winners` and `soup` take these
+Without files, `mails` and `bare` take those of `tests/mails`, and `trees` and `soup` take these
 and pages of Debian packages below /usr/share/doc. `reports` takes sheets of Bootstrap, jQuery UI,
-Font Awesome and Sphinx below /usr/share, and `printed` and `minified` 200 of all there. Each test is
+Font Awesome and Sphinx below /usr/share, and `printed` 200 of all there. Each test is
 a document.
 What differs is listed, and the last line is `N passed, M failed`. Run by hand, but for `soup`,
 which tests/library.py runs. The library is built by `./build library`.
@@ -36,7 +34,7 @@ import shutil
 import subprocess
 import sys
 import tempfile
-from typing import Any, Callable, Counter, Dict, List, Sequence, Set, Tuple
+from typing import Any, Counter, Dict, List, Sequence, Set, Tuple
 
 TOP = os.path.dirname(os.path.dirname(os.path.abspath(__file__)))
 # As a script, this folder is where modules are looked for.
@@ -48,17 +46,10 @@ from tests.common import package  # noqa: E402
 package()
 import simplecss  # noqa: E402
 from simplecss import _lint  # noqa: E402
-from simplecss._page import Page  # noqa: E402
+from simplecss._page import EditedPage  # noqa: E402
 
 # How many differences of a document are listed.
 SHOWN = 4
-# Properties that no shorthand but `all` sets.
-# fmt: off
-PROPERTIES = (
-    "color", "display", "width", "height", "text-align", "vertical-align", "position", "float",
-    "visibility", "z-index",
-)
-# fmt: on
 # fmt: off
 SELECTORS = (
     "*", "p", "a", "a[href]", "A[HREF]", "ul > li", "table td", "td + td", "tr td:first-child",
@@ -146,39 +137,6 @@ function found([text, lists]) {
         }
     });
 }
-// A sheet of another site, which is not loaded, has no rules.
-function rules_of(sheet) { try { return sheet.cssRules; } catch { return []; } }
-function winners(frame, properties, values) {
-    const page = frame.contentDocument, window = frame.contentWindow, marks = [];
-    for (const name of properties)
-        window.CSS.registerProperty({name: "--w-" + name, syntax: "*", inherits: false});
-    function mark(rules, place) {
-        for (const rule of rules) {
-            if (rule.style && rule.selectorText) for (const name of properties) {
-                const value = rule.style.getPropertyValue(name);
-                if (!value) continue;
-                const priority = rule.style.getPropertyPriority(name);
-                rule.style.setProperty("--w-" + name, String(marks.length), priority);
-                marks.push([value, place + rule.selectorText]);
-            }
-            const front = rule.selectorText ? "nested " : rule.cssText.split("{")[0] + "{ ";
-            if (rule.cssRules) mark(rule.cssRules, front);
-            if (rule.styleSheet) mark(rules_of(rule.styleSheet), "@import ");
-        }
-    }
-    for (const sheet of page.styleSheets) mark(rules_of(sheet), "");
-    const probe = page.createElement("i").style;
-    const known = values.map(([name, value]) => {
-        probe.cssText = "";
-        probe.setProperty(name, value);
-        return probe.getPropertyValue(name);
-    });
-    const found = [page.documentElement, ...all(page)].map(element => {
-        const style = window.getComputedStyle(element);
-        return properties.map(name => Number(style.getPropertyValue("--w-" + name) || -1));
-    });
-    return {marks, known, found};
-}
 function rules(text) {
     const sheet = new CSSStyleSheet();
     sheet.replaceSync(text);
@@ -208,10 +166,6 @@ window.onload = () => {
     if (input.kind == "unused")
         for (const text of input.texts)
             answer.push(frames.some(frame => frame.contentDocument.querySelector(text)));
-    if (input.kind == "winners")
-        frames.forEach((frame, i) => {
-            answer.push(winners(frame, input.properties, input.values[i]));
-        });
     document.documentElement.textContent = "ANS" + "WER" + JSON.stringify(answer) + "END";
 };
 window.onerror = text => { document.documentElement.textContent = "failed: " + text; };
@@ -321,7 +275,7 @@ def before_and_after(kind: str, names: Sequence[str]) -> List[Tuple[str, Any, An
 
 def tagged(name: str) -> Set[int]:
     """Returns the indices of the elements of a document that have a tag of their own."""
-    tags = Page(read(name)).tags
+    tags = EditedPage(read(name)).tags
     return {index for index, tag in enumerate(tags) if tag is not None}
 
 
@@ -440,7 +394,7 @@ def compare_selectors(_: Sequence[str]) -> int:
             try:
                 mine = [element.index for element in tree.select(each)]
             except simplecss.SelectorError as error:
-                if str(error).endswith(" is unsupported"):
+                if error.reason.endswith(" is unsupported"):
                     left_out += 1
                     continue
                 mine = None
@@ -567,79 +521,6 @@ def compare_links(_: Sequence[str]) -> int:
     return report.end()
 
 
-def is_beyond(cause: str) -> bool:
-    """Whether a rule of the browser is within another, or has a selector that the library does not
-    read."""
-    if cause.startswith(("@", "nested")):
-        return True
-    try:
-        simplecss.Tree().select(cause)
-    except simplecss.SelectorError:
-        return True
-    return False
-
-
-def last_of(found: Sequence[simplecss.Declaration]) -> Dict[str, simplecss.Declaration]:
-    """Returns the last declaration of each property, of which `all` sets those that are
-    compared."""
-    last: Dict[str, simplecss.Declaration] = {}
-    for each in sorted(found, key=lambda each: each.important):
-        last.update((name, each) for name in (PROPERTIES if each.name == "all" else [each.name]))
-    return last
-
-
-def compare_winners(names: Sequence[str]) -> int:
-    """Compares which declarations win on a screen of the usual size, by their values as the browser
-    prints them."""
-    report = Report()
-    ours, values = [], []
-    trees = [simplecss.Tree.from_html(read(name)) for name in names]
-    sheets = [
-        simplecss.StyleSheet.of_page(tree, at=name, folder="/") for name, tree in zip(names, trees)
-    ]
-    for tree, sheet in zip(trees, sheets):
-        styles = [last_of(found) for found in sheet.styles(tree)]
-        ours.append([[found.get(each) for found in styles] for each in PROPERTIES])
-        values.append(
-            sorted(
-                {
-                    (each, winner.value)
-                    for each, winners in zip(PROPERTIES, ours[-1])
-                    for winner in winners
-                    if winner
-                }
-            )
-        )
-    with tempfile.TemporaryDirectory() as folder:
-        asked = {"kind": "winners", "properties": PROPERTIES, "values": values}
-        answers = run_browser(asked, [os.path.abspath(name) for name in names], folder)
-    count = differing = beyond = 0
-    causes: Counter[str] = collections.Counter()
-    for name, winners, tried, answer in zip(names, ours, values, answers):
-        known = dict(zip(tried, answer["known"]))
-        found = []
-        for index, theirs in enumerate(answer["found"]):
-            for each, at, column in zip(PROPERTIES, theirs, winners):
-                mine = column[index] if index < len(column) else None
-                value = known[(each, mine.value)] if mine else None
-                wanted = answer["marks"][at][0] if at >= 0 else None
-                count += mine is not None or wanted is not None
-                if value != wanted:
-                    differing += 1
-                    cause = answer["marks"][at][1] if at >= 0 else "nothing"
-                    beyond += is_beyond(cause)
-                    causes[cause.partition("{")[0].strip() if cause.startswith("@") else cause] += 1
-                    found.append(
-                        f"element {index}, {each}: {mine}, in the browser {wanted} of `{cause}`"
-                    )
-        report.add(name, found)
-    for cause, number in causes.most_common(15):
-        print(f"{number} differ where the browser has `{cause}`")
-    equal = f"{count - differing} of {count} winners are equal"
-    print(f"{equal}; {beyond} of the others are of unsupported rules")
-    return report.end()
-
-
 def sheets_in(folder: str, words: Sequence[str] = ("",)) -> List[str]:
     """Returns the names of style sheets below a folder whose paths have one of the words, each text
     once."""
@@ -654,8 +535,6 @@ def sheets_in(folder: str, words: Sequence[str] = ("",)) -> List[str]:
     return list(found.values())
 
 
-# A rule that has nothing, as the browser writes it. A layer has a place among the others.
-EMPTY = re.compile(r"(?<![^\s}{])(?!@layer|@keyframes|@font-face)[^\s{};][^{};]*\{\s*\}\s*")
 # The kinds of what is no CSS, which no browser takes.
 NO_CSS = ("bad", "broken", "invalid", "no-block", "stray")
 
@@ -733,37 +612,14 @@ def tree_of(name: str) -> simplecss.Tree:
 
 def compare_printed(names: Sequence[str]) -> int:
     """Compares the rules that the browser has of sheets and of what the package prints of them."""
-    return compare_rules(names, lambda text: str(simplecss.StyleSheet(text, limit=None)))
-
-
-def compare_minified(names: Sequence[str]) -> int:
-    """Compares the rules that the browser has of sheets and of their short texts, but for the rules
-    that have nothing."""
-    return compare_rules(names, simplecss.minify, without_empty)
-
-
-def compare_rules(
-    names: Sequence[str],
-    other: Callable[[str], str],
-    compared: Callable[[str], str] = str,
-) -> int:
-    """Compares the rules that the browser has of sheets and of other texts of them."""
     report = Report()
     every = sheets_in("/usr/share")
     names = names or random.Random(1).sample(every, min(200, len(every)))
-    texts = [(read(name), other(read(name))) for name in names]
+    texts = [(text, str(simplecss.StyleSheet(text, limit=None))) for text in map(read, names)]
     with tempfile.TemporaryDirectory() as folder:
         for name, found in zip(names, run_browser({"kind": "printed", "texts": texts}, [], folder)):
-            before, after = (list(filter(None, map(compared, rules))) for rules in found)
-            report.add(name, differing_rules(before, after))
+            report.add(name, differing_rules(*found))
     return report.end()
-
-
-def without_empty(rule: str) -> str:
-    """Returns a rule as the browser writes it without the rules in it that have nothing, and
-    without blanks after colons and commas, some of which it writes as they are."""
-    found = EMPTY.sub("", rule.replace(": ", ":").replace(", ", ","))
-    return found if found == rule else without_empty(found)
 
 
 def differing_rules(before: Sequence[str], after: Sequence[str]) -> List[str]:
@@ -807,13 +663,11 @@ def main() -> int:
         "bare": compare_bare,
         "trees": compare_trees,
         "selectors": compare_selectors,
-        "winners": compare_winners,
         "links": compare_links,
         "soup": compare_soup,
         "reports": compare_reports,
         "unused": compare_unused,
         "printed": compare_printed,
-        "minified": compare_minified,
     }
     usual = {
         "mails": mails,
@@ -823,7 +677,6 @@ def main() -> int:
         "reports": list,
         "unused": list,
         "printed": list,
-        "minified": list,
     }
     words = sys.argv[1:] or ["mails"]
     if words[0] not in kinds:

@@ -4,7 +4,8 @@ its features, the C library as a crate, the Python package from the checkout and
 distribution, and the npm package.
 
 The module `modern` of the crate answers as the proved crates do on random texts, whose number
-`COUNT` sets. What needs a tool or a package of Debian that is missing is left out.
+`COUNT` sets, on a document and on a page of elements of another type. Drawings over the tree of
+roxmltree look as in Chromium. What needs a tool or a package of Debian that is missing is left out.
 """
 from __future__ import annotations
 
@@ -13,16 +14,33 @@ import functools
 import glob
 import json
 import os
+import random
 import re
 import shutil
 import sys
 import tempfile
 import unittest
+import zipfile
 from typing import Any, Dict, List, Optional, Sequence, Set, Tuple
 
-from tests import judges_tests, modern_selectors, nested_rules, release, syntax
-from tests.common import DEBIAN, TOP, browser_answers, count, has_modules, library_path, read, write
+from tests import judges_tests, modern_selectors, nested_rules, release, shown, syntax, tables
+from tests.common import (
+    DEBIAN,
+    TOP,
+    browser_answers,
+    check_kept,
+    check_objects,
+    count,
+    has_modules,
+    library_path,
+    package,
+    read,
+    version,
+    write,
+)
 from tests.release import (
+    CMAKE,
+    Done,
     DRAWING,
     PIECES,
     PRINTED,
@@ -35,6 +53,8 @@ from tests.release import (
     unpack,
 )
 
+# Where a bare Debian comes from.
+MIRROR = "http://deb.debian.org/debian"
 FEATURES = ("", "std", "log", "modern", "std,log,modern", "bits32")
 # Targets of 32 bits, of which one may be installed.
 WASM, ARM = "wasm32-unknown-unknown", "armv7-unknown-linux-gnueabihf"
@@ -73,6 +93,10 @@ g
 rect stroke="rgb(255, 0, 0)"
 rect fill="rgb(0, 128, 0)" opacity="0.5" stroke="rgb(255, 0, 0)" stroke-width="7px"
 rect fill="rgb(4, 5, 6)" stroke="rgb(255, 0, 0)"
+g opacity="0.9"
+rect fill="rgb(0, 128, 0)" opacity="0.4" stroke-width="2px"
+title opacity="0.3"
+rect fill="rgb(200, 0, 0)" stroke="rgb(0, 0, 200)" stroke-width="2px"
 """
 # What an element has of a property that no declaration sets, and whether children inherit it.
 UNSET = {
@@ -134,6 +158,10 @@ def stock_environment() -> Dict[str, str]:
     return {**kept, "PATH": path, "PYTHONDONTWRITEBYTECODE": "1", "LC_ALL": "C.UTF-8"}
 
 
+def nothing() -> None:
+    """Makes nothing."""
+
+
 @functools.lru_cache(maxsize=None)
 def clean_folder() -> str:
     """A folder with a copy of the checkout in which nothing is built."""
@@ -176,6 +204,23 @@ class Checkout(Release):
         path = write(os.path.join(folder, "cargo"), STOCK_CARGO.format(usr=f"{folder}/usr"))
         os.chmod(path, 0o755)
         return {"PATH": folder + os.pathsep + self.environment["PATH"]}
+
+    def run_page(self, language: str, made: Dict[str, str], compared: int) -> None:
+        """Runs the first steps in a language, of which this many blocks are compared. `made` has what lines
+        of the page make, by the paths of those that other tests have made; what has none is there then.
+        """
+        folder = os.path.join(self.folder, "first")
+        os.makedirs(folder)
+        # npm asks no registry about a package that it takes from a folder.
+        quiet = {"npm_config_audit": "false", "npm_config_update_notifier": "false"}
+        environment = {**self.environment, **quiet, "CHECKOUT": self.top}
+        page = shown.Page(self, f"docs/first_steps/{language}.md", folder, environment)
+        for line, path in made.items():
+            to = os.path.join(folder, line.split()[-1])
+            page.made[line] = nothing
+            if path:
+                page.made[line] = functools.partial(os.symlink, path, to)
+        self.assertEqual(page.run(read(self.top, page.name)), compared)
 
     def offline_cargo(self) -> Cargo:
         """Cargo without the toolchain, which takes other crates from Debian's packages and keeps
@@ -256,15 +301,18 @@ class Rust(Checkout):
         self.cargo.pass_tests_of_0_2_2(self.needed)
 
     def test_answers(self) -> None:
-        """The module `modern` answers as the proved crates do."""
-        files = {"src/main.rs": read("tests", "release", "compare_modern.rs")}
+        """The module `modern` answers as the proved crates do, and alike on a document and on a page of
+        elements of another type."""
+        files = sources("compare_modern.rs", "own.rs")
         project = self.cargo.project("compare", self.needed, **files)
         source = modern_selectors.Source(11)
         tree, texts = source.tree(), modern_texts(source)
         lines = "\n".join(modern_selectors.lines_of(tree))
-        data = framed([it.encode() for it in (lines, *texts)])
+        # Of what is after these texts a document and a page answer alike, which the program expects.
+        data = framed([it.encode() for it in (lines, *texts, *plain_texts(len(texts) // 4))])
         done = self.cargo(["run", "-q", "--release"], project, "the comparison", input=data)
-        got = [[answer.decode() for answer in it] for it in parts_of(done.stdout, 7)]
+        parts = parts_of(done.stdout, 7)[: len(texts)]
+        got = [[answer.decode() for answer in it] for it in parts]
         due = proved_answers(tree, texts)
         kinds = ("declarations", "names", "printing", "sheets", "matches", "index", "winners")
         shown = [it.encode() for it in texts]
@@ -275,6 +323,38 @@ class Rust(Checkout):
             self.compare(
                 f"modern {kind} and the proved crates", [it[0] for it in rows], wanted, found
             )
+
+    def test_cases(self) -> None:
+        """The rows that each package answers alike."""
+        project = self.cargo.project("cases", self.needed, **sources("cases.rs"))
+
+        def answers(asked: List[tables.Asked]) -> List[str]:
+            data = b"".join(map(tables.for_rust, asked))
+            done = self.cargo(["run", "-q"], project, "cases", input=data)
+            return list(map(tables.from_rust, asked, done.stdout.split(b"\0")[:-1]))
+
+        self.against(answers, tables.asked_of("rust"), tables.answered)
+
+    def test_pages(self) -> None:
+        """Pages in HTML have the elements, the places and the texts that Python's have, and the same elements match."""
+        project = self.cargo.project("html", self.needed, **sources("html.rs"))
+        work = html_pages(count(2_000))
+        data = framed([it.encode() for pair in work for it in pair])
+        done = self.cargo(["run", "-q"], project, "pages in HTML", input=data)
+        got = [part.decode() for (part,) in parts_of(done.stdout, 1)]
+        due = [answered_in_python(*it) for it in work]
+        self.compare("pages in HTML and Python's", [it[0].encode() for it in work], due, got)
+
+    def test_counts(self) -> None:
+        """Calls that take a person's own elements test them as often as they say, and no more."""
+        project = self.cargo.project("counting", self.needed, **sources("counting.rs", "own.rs"))
+        done = self.cargo(["run", "-q"], project, "how often elements are tested")
+        self.assertGreater(len(done.stdout.splitlines()), 30)
+
+    def test_unanswered(self) -> None:
+        """No call answers for a single element what a page answers."""
+        project = self.cargo.project("unanswered", self.needed, **sources("unanswered.rs"))
+        self.cargo(["run", "-q"], project, "answers that need a page")
 
     def test_speed(self) -> None:
         """Shows how long the index takes, and a test of each rule."""
@@ -287,6 +367,53 @@ class Rust(Checkout):
         words = ["cargo", "run", "-q", "--release", "--offline", "--", sheets[0]]
         done = self.works(words, "the speed", project, env=self.cargo.environment)
         print(done.stdout.decode(), end="")
+
+
+# What random pages and lists of selectors are made of.
+MARKUP = (
+    "<!DOCTYPE html>|<html lang=de>|<html a=1 lang=x>|<head>|<body B='&lt;'>|<p class=A id=X>|<p>|</p>|<b c=d C=e>|</b>"
+    "|<table>|<tr><td>|</table>|<svg viewBox=1 xlink:href=a>|<CLIPPATH>|</svg>|<math definitionurl=u>|<mi>|<a href=x>"
+    "|<template><i>|</template>|<input type=CHECKBOX checked>|<select><option selected>|<title>&amp;</title>|text|&copy;"
+    "|<style>p{}</style>|<noscript><u></noscript>|<!-- c -->|<br>|<ul><li>|<i title='a\tb'>|<h1>|<font color=RED>|\n|</"
+).split("|")
+SELECTORS = (
+    "*|P|p.a|.A|#x|#X|:root|[TYPE=checkbox]|:checked|[Color=red i]|B > *|svg *|clippath|clipPath|a:link|:any-link"
+    "|p:has(b)|:nth-child(2 of p, li)|:empty|:lang(DE)|[c=d]|:is(B, i) + *|li:not(:has(*))|:scope > *|[viewbox]"
+).split("|") + ["[*|href]"]
+
+
+def html_pages(number: int) -> List[Tuple[str, str]]:
+    """Random pages, each with a list of selectors."""
+    rng = random.Random(5)
+    pages = ("".join(rng.choices(MARKUP, k=rng.randrange(12))) for _ in range(number))
+    return [(page, ", ".join(rng.choices(SELECTORS, k=rng.randrange(1, 3)))) for page in pages]
+
+
+def answered_in_python(text: str, selectors: str) -> str:
+    """What html.rs answers, by the package."""
+    package()
+    from simplecss import Tree
+    from simplecss._html import HtmlPage
+
+    page = HtmlPage(text)
+    lines = [f"{page.is_quirky} {page.is_doubtful}".lower()]
+    rows = zip(
+        page.depths(), page.names(), page.spaces(), page.tags(), page.ends(), page.attributes()
+    )
+    for depth, name, space, tag, end, attributes in rows:
+        start = "None" if tag[0] < 0 else f"Some({tag[0]}..{tag[1]})"
+        fields = [str(depth), name, str(space), start, f"{end[0]}..{end[1]}"]
+        lines.append("\t".join([*fields, *(f"{key}={value}" for key, value in attributes.items())]))
+    for _, owner, said in zip(*page.texts()):
+        lines.append(f"{'None' if owner < 0 else f'Some({owner})'}\t{said}")
+    found = [it.index for it in Tree.from_html(text).select(selectors)]
+    return "\n".join([*lines, str(found)])
+
+
+def sources(name: str, *modules: str) -> Dict[str, str]:
+    """The files of a program of tests/release, whose first one is its main source."""
+    files = {f"src/{it}": read("tests", "release", it) for it in modules}
+    return {"src/main.rs": read("tests", "release", name), **files}
 
 
 def has_target(environment: Dict[str, str], target: str) -> bool:
@@ -442,6 +569,95 @@ def found_on(
     return index, winners
 
 
+# What the selectors of random drawings have. Each compound selector has a name, so that none is of what is
+# around the drawing.
+MORE = (".k", ".l", ":first-child", ":nth-child(2n+1)", ":last-of-type", ":empty", ":not(.k)")
+OF = ("1", "2", "odd", "2n", "-n+2", "n+2")
+SIGNS = ("", "", "> ", "+ ", "~ ")
+
+
+class DrawingSource(random.Random):
+    """Random drawings, the same in each run."""
+
+    def compound(self) -> str:
+        """A compound selector without lists."""
+        more = self.choices(MORE, k=self.choice((0, 0, 1, 2)))
+        return self.choice(("g", "rect", "path")) + "".join(more)
+
+    def complex(self) -> str:
+        """One or two of them, joined."""
+        last = self.choice(SIGNS) + self.compound()
+        return self.compound() + " " + last if self.random() < 0.4 else last.lstrip("+~> ")
+
+    def tested(self) -> str:
+        """A pseudo-class with a list."""
+        listed = ", ".join(self.complex() for _ in range(self.choice((1, 1, 2))))
+        kind = self.choice(("has", "has", "nth-child", "nth-last-child", "is"))
+        if kind == "has":
+            listed = self.choice(SIGNS) + listed
+        elif kind != "is":
+            listed = f"{self.choice(OF)} of {listed}"
+        return f":not(:{kind}({listed}))" if self.random() < 0.4 else f":{kind}({listed})"
+
+    def selector(self, depth: int) -> str:
+        """A selector of a rule, of which so many are around it."""
+        text = self.compound() + (self.tested() if self.random() < 0.7 else "")
+        if depth and self.random() < 0.5:
+            return self.choice(("& ", "& > ", "& + ", "> ", "~ ")) + text
+        if depth:
+            return self.choice(("&:not(.k)", "&.l", f"{text} &", f"&{self.tested()}"))
+        return self.choice(("", "", self.compound() + self.choice((" ", " > ", " ~ ")))) + text
+
+    def declaration(self) -> str:
+        """A declaration of one of the four properties."""
+        name = self.choice(list(UNSET))
+        value = f"{self.randrange(1, 99)}px"
+        if name in ("fill", "stroke"):
+            value = f"rgb({self.randrange(256)}, {self.randrange(256)}, 0)"
+        elif name == "opacity":
+            value = self.choice(("0.5", "0.25", "0.75", "0.125"))
+        return f"{name}: {value}{self.choice(('', '', '', ' !important'))};"
+
+    def rule(self, depth: int = 0) -> str:
+        """A rule, with rules in it."""
+        selectors = ", ".join(self.selector(depth) for _ in range(self.choice((1, 1, 2))))
+        inner = [self.rule(depth + 1) for _ in range(self.choice((0, 0, 1, 2)) if depth < 3 else 0)]
+        front = self.choice(
+            ("", "", "", "@layer x", "@layer y", "@media (width > 1px)", "@media print")
+        )
+        text = f"{selectors} {{ {self.declaration()} {' '.join(inner)} {self.declaration()} }}"
+        return f"{front} {{ {text} }}" if front else text
+
+    def elements(self, depth: int = 0) -> str:
+        """Elements in one another."""
+        text = ""
+        for _ in range(self.randrange(1, 6) if depth < 4 else 0):
+            classes = self.choice(("", "", ' class="k"', ' class="l"', ' class="k l"'))
+            name = self.choice(("g", "g", "rect", "path"))
+            inner = self.elements(depth + 1) if self.random() < 0.7 else ""
+            text += f"<{name}{classes}>{inner}</{name}>"
+        return text
+
+    def drawing(self) -> str:
+        """A drawing with a sheet."""
+        rules = "\n".join(self.rule() for _ in range(40))
+        elements = "".join(self.elements() for _ in range(4))
+        head = '<svg xmlns="http://www.w3.org/2000/svg">'
+        return f"{head}<style><![CDATA[{rules}]]></style>{elements}</svg>"
+
+
+def plain_texts(number: int) -> List[str]:
+    """Lists of selectors and sheets in turn, such as match many elements of other trees."""
+    source, names = DrawingSource(6), {"g": "li", "rect": "a", "path": "b", "k": "c", "l": "d"}
+    names.update({"fill:": "color:", "stroke:": "--x:"})
+    texts = []
+    for at in range(number):
+        text = source.rule() + source.rule() if at % 2 else source.selector(0)
+        words = r"\b(?:(?:g|rect|path|k|l)\b|fill:|stroke:)"
+        texts.append(re.sub(words, lambda it: names[str(it[0])], text))
+    return texts
+
+
 class Drawing(Checkout):
     """The examples over the tree of roxmltree."""
 
@@ -467,10 +683,21 @@ class Drawing(Checkout):
 
     def test_browser(self) -> None:
         """A browser computes what the example prints, and what elements inherit of it."""
-        found = browser_answers(COMPUTED, [read(MODERN_DRAWING), list(UNSET)])
+        self.computed(read(MODERN_DRAWING), WINNERS)
+
+    def test_random(self) -> None:
+        """So it does of random drawings, with `:has()`, lists after `An+B` and nested rules."""
+        source = DrawingSource(5)
+        for _ in range(3):
+            drawing = source.drawing()
+            self.computed(drawing, self.printed("modern", drawing.encode()))
+
+    def computed(self, drawing: str, winners: str) -> None:
+        """Compares what the example prints with what a browser computes."""
+        found = browser_answers(COMPUTED, [drawing, list(UNSET)])
         if found is None:
-            self.skipTest("the drawing of the example: there is no chromium")
-        lines = WINNERS.splitlines()
+            self.skipTest("drawings of the example: there is no chromium")
+        lines = winners.splitlines()
         self.assertEqual([it[0] for it in found], [line.split()[0] for line in lines])
         above: List[List[str]] = []
         for line, (element, depth, values) in zip(lines, found):
@@ -494,15 +721,25 @@ class Drawing(Checkout):
 # ---- the C library, and Python
 
 
+class FirstSteps(Checkout):
+    def test_rust(self) -> None:
+        """Those in Rust need no other crate."""
+        self.run_page("RUST", {}, 2)
+
+
 class Library(Checkout):
     """The C library as a crate of Rust."""
 
-    def test_library(self) -> None:
+    def built(self) -> Tuple[str, str]:
+        """The folder of the crate, and the one with the libraries that cargo makes of it."""
         package, cargo = self.erased("c", "--c"), self.offline_cargo()
         cargo(["build", "--release"], package, "the C library")
-        folder = os.path.join(cargo.environment["CARGO_TARGET_DIR"], "release")
+        return package, os.path.join(cargo.environment["CARGO_TARGET_DIR"], "release")
+
+    def test_library(self) -> None:
+        package, folder = self.built()
         header = read(package, "simplecss.h")
-        declared = set(re.findall(r"^uint32_t (simplecss_\w+)\(", header, re.MULTILINE))
+        declared = set(re.findall(r"^(?:uint32_t|void) (simplecss_\w+)\(", header, re.MULTILINE))
         loaded = ctypes.CDLL(os.path.join(folder, "libsimplecss.so"))
         self.assertGreater(len(declared), 15)
         for name in sorted(declared):
@@ -515,6 +752,27 @@ class Library(Checkout):
         if os.path.exists(os.path.join(TOP, "out", "libsimplecss.so")):
             folder = os.path.dirname(library_path())
             self.assertEqual(self.page_by(["cc", "-std=c99"], package, folder), PRINTED)
+
+    def test_first_steps(self) -> None:
+        self.needs("cc", "the first steps in C")
+        package, folder = self.built()
+        target = os.path.join(package, "target")
+        if not os.path.exists(target):
+            os.symlink(os.path.dirname(folder), target)
+        made = {
+            "$CHECKOUT/tools/erase.py --c simplecss-c": package,
+            "cargo build --release --manifest-path simplecss-c/Cargo.toml": "",
+        }
+        self.run_page("C", made, 2)
+
+    def test_kept(self) -> None:
+        package, folder = self.built()
+        self.needs("cc", "what the C library of a checkout keeps")
+        archive = os.path.join(folder, "libsimplecss.a")
+        for name in ("kept_lists.c", "kept_pages.c"):
+            with self.subTest(program=name):
+                check_kept(self, ["cc", f"-I{package}"], archive, name)
+        check_objects(self, package, folder)
 
     def test_arm(self) -> None:
         """The library for armv7 answers as the proved one, and no sum of it leaves 32 bits."""
@@ -540,6 +798,53 @@ class Library(Checkout):
         words = [*words, "-Wall", "-Wextra", "-pedantic", "-Werror", f"-I{package}", source]
         self.works([*words, "-o", made, f"-L{folder}", "-lsimplecss"], "page.c")
         return run([made], env={"LD_LIBRARY_PATH": folder}).stdout
+
+
+class Prefix(Checkout):
+    """The C library below a prefix, with what pkg-config and CMake read."""
+
+    def installed(self) -> str:
+        """The prefix. It is made once."""
+        prefix = os.path.join(clean_folder(), "prefix")
+        if not os.path.isdir(prefix):
+            self.environment["CARGO_PROFILE_RELEASE_LTO"] = "off"
+            self.environment["CARGO_PROFILE_RELEASE_OPT_LEVEL"] = "0"
+            self.environment["SOURCE_DATE_EPOCH"] = "1700000000"
+            words = [sys.executable, os.path.join(self.top, "tools", "release.py"), "--c", prefix]
+            self.works(words, "release.py --c", self.top, env=self.environment)
+        return prefix
+
+    def test_name(self) -> None:
+        """A program asks for the name of the library, and finds it in the prefix alone."""
+        for tool in ("gcc", "pkg-config", "readelf"):
+            self.needs(tool, "the C library below a prefix")
+        prefix, made = self.installed(), os.path.join(self.folder, "page")
+        source = os.path.join(self.top, "examples", "c", "page.c")
+        environment = {**os.environ, "PKG_CONFIG_PATH": os.path.join(prefix, "lib", "pkgconfig")}
+        words = ["pkg-config", "--cflags", "--libs", "simplecss"]
+        flags = self.works(words, "pkg-config", env=environment).stdout.decode().split()
+        self.works(["gcc", "-Wall", "-Werror", source, "-o", made, *flags], "page.c")
+        shown = self.works(["readelf", "-d", made], "readelf").stdout.decode()
+        self.assertIn("Shared library: [libsimplecss.so.1]", shown)
+        done = run([made], env={"LD_LIBRARY_PATH": os.path.join(prefix, "lib")})
+        self.assertEqual((done.returncode, done.stdout), (0, PRINTED))
+
+    def test_cmake(self) -> None:
+        """CMake finds both libraries in the prefix."""
+        for tool in ("cmake", "g++", "make"):
+            self.needs(tool, "the C library below a prefix by CMake")
+        prefix, source = self.installed(), os.path.join(self.folder, "source")
+        for end in ("c", "cpp"):
+            text = read(self.top, "examples", "c", "page.c")
+            os.makedirs(source, exist_ok=True)
+            write(os.path.join(source, f"page.{end}"), text)
+        write(os.path.join(source, "CMakeLists.txt"), CMAKE % ".".join(version().split(".")[:2]))
+        built = os.path.join(self.folder, "built")
+        self.works(["cmake", "-S", source, "-B", built, f"-DCMAKE_PREFIX_PATH={prefix}"], "cmake")
+        self.works(["cmake", "--build", built], "cmake --build")
+        for path in glob.glob(os.path.join(built, "page_*")):
+            with self.subTest(path=os.path.basename(path)):
+                self.assertEqual(run([path], env={}).stdout, PRINTED)
 
 
 class Python(Checkout):
@@ -602,10 +907,129 @@ class Python(Checkout):
         self.answers(True, self.installed(os.path.join(checkout, "python")))
 
 
+class Setup(Checkout):
+    """What setup.py does before anything is compiled, and what it packs."""
+
+    def setUp(self) -> None:
+        super().setUp()
+        if not has_modules(DEBIAN, "setuptools", "wheel"):
+            self.skipTest("setup.py: there is no python3-setuptools or python3-wheel")
+        self.checkout = os.path.join(self.folder, "checkout")
+        shutil.copytree(self.top, self.checkout)
+
+    def wheel(self) -> Done:
+        """Runs setup.py."""
+        words = [DEBIAN, "setup.py", "-q", "bdist_wheel", "--dist-dir", self.folder]
+        return run(words, os.path.join(self.checkout, "python"), env=self.environment)
+
+    def with_rust(self, version: str) -> None:
+        """Puts a rustc of a version on the PATH, and a cargo that notes that it ran."""
+        folder = os.path.join(self.folder, "bin")
+        os.makedirs(folder, exist_ok=True)
+        rows = (("rustc", f"echo 'rustc {version}'"), ("cargo", f"touch {self.folder}/ran; exit 1"))
+        for name, line in rows:
+            os.chmod(write(os.path.join(folder, name), f"#!/bin/sh\n{line}\n"), 0o755)
+        self.environment["PATH"] = f"{folder}:/usr/bin:/bin"
+
+    def test_old_rust(self) -> None:
+        """A Rust that is too old is named before cargo runs."""
+        for version in ("1.63.0", "1.64.9 (x)", "nothing"):
+            with self.subTest(version=version):
+                self.with_rust(version)
+                done = self.wheel()
+                self.assertEqual(done.returncode, 1)
+                wanted = f"rustc says rustc {version}, and Rust 1.65 is needed: install Rust"
+                self.assertIn(wanted, done.stderr.decode())
+                self.assertFalse(os.path.exists(f"{self.folder}/ran"))
+
+    def test_new_rust(self) -> None:
+        """With another one setup.py says what cargo does, and what to do if that fails."""
+        self.with_rust("1.65.0")
+        done = self.wheel()
+        self.assertEqual((done.returncode, os.path.exists(f"{self.folder}/ran")), (1, True))
+        for wanted in (
+            "cargo compiles one by rustc 1.65.0, in about two minutes",
+            "cargo did not build the library: install Rust",
+        ):
+            self.assertIn(wanted, done.stderr.decode())
+
+    def test_stale(self) -> None:
+        """A wheel has no module that an earlier build left, and has the licences."""
+        os.makedirs(os.path.join(self.checkout, "out"))
+        write(os.path.join(self.checkout, "out", "libsimplecss.so"), "")
+        module = os.path.join(self.checkout, "python", "src", "simplecss", "_gone.py")
+        names: List[Set[str]] = []
+        for text in ("", None):
+            write(module, text) if text is not None else os.remove(module)
+            done = self.wheel()
+            self.assertEqual(done.returncode, 0, done.stderr[-1500:])
+            (wheel,) = glob.glob(os.path.join(self.folder, "*.whl"))
+            with zipfile.ZipFile(wheel) as packed:
+                names.append(set(packed.namelist()))
+            os.remove(wheel)
+        self.assertEqual(names[0] - names[1], {"simplecss/_gone.py"})
+        info = {os.path.basename(it) for it in names[1] if ".dist-info/" in it}
+        self.assertLessEqual({"LICENSE-MIT", "LICENSE-APACHE", "METADATA"}, info)
+
+
+class Bare(Checkout):
+    """The lines of the documents in a bare Debian 12, as they are written there."""
+
+    LINES = r"<!-- on Debian 12 -->\n((?: {4}.*\n)+)"
+
+    def setUp(self) -> None:
+        super().setUp()
+        what = "the lines of the documents in a bare Debian"
+        for tool in ("debootstrap", "chroot"):
+            self.needs(tool, what)
+        if os.geteuid() != 0:
+            self.skipTest(f"{what}: only root makes one")
+        self.root = os.path.join(clean_folder(), "root")
+        if not os.path.isdir(self.root):
+            words = ["debootstrap", "--variant=minbase", "bookworm", self.root]
+            done = run([*words, MIRROR])
+            if done.returncode:
+                shutil.rmtree(self.root, ignore_errors=True)
+                self.skipTest(f"{what}: debootstrap: {done.stdout.decode().strip()[-200:]}")
+            shutil.copytree(self.top, os.path.join(self.root, "checkout"))
+            # Nobody answers what apt-get asks.
+            assumed = 'APT::Get::Assume-Yes "true";\nAPT::Install-Recommends "false";\n'
+            write(os.path.join(self.root, "etc/apt/apt.conf.d/assumed"), assumed)
+            self.types("apt-get -q update")
+
+    def types(self, line: str) -> str:
+        """Runs a line in the bare system, in the checkout. Returns what it prints."""
+        environment = {
+            **{"PATH": "/usr/sbin:/usr/bin:/sbin:/bin", "HOME": "/root", "LC_ALL": "C.UTF-8"},
+            # What is compiled is not fast, but soon.
+            **{"CARGO_PROFILE_RELEASE_LTO": "off", "CARGO_PROFILE_RELEASE_OPT_LEVEL": "0"},
+            "DEBIAN_FRONTEND": "noninteractive",
+        }
+        words = ["chroot", self.root, "/bin/sh", "-c", f"cd /checkout && {line}"]
+        return self.works(words, line, env=environment).stdout.decode()
+
+    def test_lines(self) -> None:
+        """Those of INSTALL for Python, and those of the README for the command and for C."""
+        (lines,) = re.findall(self.LINES, read(self.top, "docs", "INSTALL.md"))
+        shown = [self.types(line.strip()) for line in lines.splitlines()]
+        self.assertEqual(shown[-1], read(self.top, "examples", "pages", "mail.inlined.html"))
+        page = read(self.top, "README.md")
+        for name in ("inline", "style", "lint"):
+            for line in re.findall(rf"(?m)^    (simplecss {name} .*)", page):
+                self.assertTrue(self.types(f"PATH=$PWD/venv/bin:$PATH; {line}"), line)
+        in_c = re.findall(r"(?m)^    ((?:tools/erase.py --c|cc) .*)", page)
+        self.assertEqual(len(in_c), 2)
+        folder = "DIR=$PWD/out/c; "
+        found = [self.types(folder + re.sub(r"\bDIR\b", "$DIR", line)) for line in in_c]
+        self.assertEqual(found[-1].encode(), PRINTED)
+
+
 class JavaScript(Checkout, release.Npm):
     """The npm package that a checkout makes. Its module stops where a sum leaves 32 bits."""
 
     IS_PROVED = "false"
+    # The tests of sums take room.
+    MOST = 450_000
 
     def put(self, folder: str) -> None:
         made = os.path.join(clean_folder(), "npm")
@@ -613,11 +1037,19 @@ class JavaScript(Checkout, release.Npm):
             self.environment["CARGO_PROFILE_RELEASE_OVERFLOW_CHECKS"] = "true"
             if not has_target(self.environment, WASM):
                 self.needs("wasm-ld", "the npm package from a checkout")
+                self.needs("wasm-split", "the npm package from a checkout")
                 self.environment.update(self.stock_rust())
             tool = os.path.join(self.top, "tools", "release.py")
             words = [sys.executable, tool, "--npm", made]
             self.works(words, "release.py --npm", self.top, env=self.environment)
         shutil.copytree(made, folder)
+
+    def test_first_steps(self) -> None:
+        for tool in ("node", "npm"):
+            self.needs(tool, "the first steps in JavaScript")
+        package = os.path.join(self.folder, "package")
+        self.put(package)
+        self.run_page("JAVASCRIPT", {"$CHECKOUT/tools/release.py --npm simplecss-npm": package}, 3)
 
     def test_page(self) -> None:
         """The page beside the package works from a file."""

@@ -7,11 +7,13 @@ are, runs in which a request for memory is refused, real sheets, and what a brow
 
 Each row of a table counts as one, and so does a test without rows. A program is the newest of what
 `rt ci`, `./build` and `./build unproved NAME` leave, or that of the folder which the environment
-variable `PROGRAMS` names. `COUNT` sets how many random inputs there are of each kind, and `SHEETS`
+variable `PROGRAMS` names. `COUNT` sets how many random inputs there are of each kind: as many as are usual
+take a subject that has a judge at most 60 processor seconds, those of the browser included. `SHEETS` is
 the folder with real style sheets.
 """
 from __future__ import annotations
 
+import ctypes
 import faulthandler
 import functools
 import glob
@@ -26,7 +28,22 @@ import sys
 import tempfile
 import unittest
 from types import TracebackType
-from typing import Any, Dict, List, NamedTuple, Optional, Sequence, Set, TextIO, Tuple, Type, Union
+from typing import (
+    Any,
+    Callable,
+    Dict,
+    Iterable,
+    List,
+    NamedTuple,
+    Optional,
+    Sequence,
+    Set,
+    TextIO,
+    Tuple,
+    Type,
+    TypeVar,
+    Union,
+)
 
 TOP = os.path.dirname(os.path.dirname(os.path.abspath(__file__)))
 # The Python that Debian's packages are for.
@@ -35,7 +52,12 @@ DEBIAN = "/usr/bin/python3"
 PLACES = ("crates/{0}/out/{0}", "out/{0}", "out/unproved/{0}")
 # How many of the failures of a sweep are shown.
 SHOWN = 10
+# By `prctl`, in Linux: an orphan below a process becomes a child of it.
+PR_SET_CHILD_SUBREAPER = 36
 
+# What a row of a comparison is whose difference is named elsewhere.
+LEFT_OUT = "left out"
+Input = TypeVar("Input")
 Failure = Union[Tuple[Type[BaseException], BaseException, TracebackType], Tuple[None, None, None]]
 
 
@@ -57,6 +79,41 @@ class Case(unittest.TestCase):
         if len(failures) > SHOWN:
             with self.subTest(failure=SHOWN):
                 self.fail(f"{len(failures)} of {total} failed")
+
+    def against(
+        self,
+        judge: Callable[[List[Input]], Optional[Sequence[Any]]],
+        inputs: Iterable[Input],
+        question: Callable[[Input, Any], Iterable[Optional[str]]],
+        missing: str = "no browser answers",
+    ) -> int:
+        """Compares what is said of each input with what a judge says of it, and counts the rows. A row of
+        the question is how the two differ, None if they agree, or `LEFT_OUT`. Returns how many are left
+        out. A judge that is missing returns None."""
+        asked = list(inputs)
+        answers = judge(asked)
+        if answers is None:
+            self.skipTest(missing)
+        self.assertEqual(len(answers), len(asked), "not all is answered")
+        rows = [row for one, answer in zip(asked, answers) for row in question(one, answer)]
+        compared = [row for row in rows if row is not LEFT_OUT]
+        self.assertTrue(compared, "nothing is compared")
+        if len(compared) < len(rows):
+            print(f"{self.id()}: {len(compared)} compared, {len(rows) - len(compared)} left out")
+        self.sweep(len(compared), [row for row in compared if row is not None])
+        return len(rows) - len(compared)
+
+
+def row(what: object, found: Any, due: Any) -> Optional[str]:
+    """A row of a comparison: how what is found of something is not what is due, or None."""
+    return None if found == due else f"{what}: {found}, and not {due}"
+
+
+def rows(what: object, found: Sequence[Any], due: Sequence[Any]) -> List[Optional[str]]:
+    """A row for each of several that are due."""
+    if len(found) != len(due):
+        return [row(what, found, due)] * max(1, len(due))
+    return [row(what, *each) for each in zip(found, due)]
 
 
 class Counts(unittest.TextTestResult):
@@ -102,16 +159,30 @@ class Counts(unittest.TextTestResult):
         self.passed += getattr(test, "counted", 0)
 
 
+def processor_seconds() -> float:
+    """How long processors have worked for this process and for those that it has started and that have
+    ended."""
+    try:
+        while os.waitpid(-1, os.WNOHANG)[0]:
+            pass
+    except ChildProcessError:
+        pass
+    return sum(os.times()[:4])
+
+
 def run_subjects(names: Sequence[str]) -> int:
-    """Runs subjects, prints what was left out and the counts, and returns the exit status. After a
-    request to end it shows where it is, and ends."""
+    """Runs subjects, prints what was left out, how long processors took and the counts, and returns the exit
+    status. After a request to end it shows where it is, and ends."""
     faulthandler.register(signal.SIGTERM, chain=True)
+    # What a browser leaves behind becomes a child of this process, whose time counts.
+    ctypes.CDLL(None).prctl(PR_SET_CHILD_SUBREAPER, 1, 0, 0, 0)
     suite = unittest.defaultTestLoader.loadTestsFromNames([f"tests.{name}" for name in names])
     runner = unittest.TextTestRunner(sys.stdout, verbosity=0, resultclass=Counts)
     result = runner.run(suite)
     assert isinstance(result, Counts)
     for reason in sorted(result.left_out):
         print(f"left out: {reason}")
+    print(f"{processor_seconds():.0f} processor seconds")
     print(f"{result.passed} passed, {result.failed} failed", flush=True)
     return 1 if result.failed else 0
 
@@ -180,6 +251,15 @@ def by_debian(case: Case, module: str, what: str) -> None:
     case.passes(int(counts[1]))
 
 
+def debian_answers(script: str, work: Any, *modules: str) -> Optional[Any]:
+    """What a script answers on some work in Debian's Python, or None if that lacks a module."""
+    if not has_modules(DEBIAN, *modules):
+        return None
+    words, pipe = [DEBIAN, "-c", script], subprocess.PIPE
+    done = subprocess.run(words, input=json.dumps(work), stdout=pipe, text=True, check=True)
+    return json.loads(done.stdout)
+
+
 class Answer(NamedTuple):
     """What a program ends with and prints."""
 
@@ -195,6 +275,37 @@ def answer(words: Sequence[str], **options: Any) -> Answer:
     streams: Dict[str, Any] = {"stdout": subprocess.PIPE, "stderr": subprocess.PIPE, **options}
     done = subprocess.run(list(words), check=False, **streams)
     return Answer(done.returncode, (done.stdout or b"").decode(), (done.stderr or b"").decode())
+
+
+def check_kept(case: Case, compiler: Sequence[str], archive: str, name: str) -> None:
+    """Runs a program of tests/ on what a static library keeps under valgrind: each answer is as it
+    must be, no byte is lost, and none is read after it was let go."""
+    if not shutil.which("valgrind"):
+        case.skipTest("what the C library keeps: there is no valgrind")
+    with tempfile.TemporaryDirectory() as folder:
+        program = os.path.join(folder, "program")
+        source = os.path.join(TOP, "tests", name)
+        # valgrind reads debug information up to DWARF 4, and says so of each other file.
+        words = ["-gdwarf-4", "-Wall", "-Wextra", "-Werror", source, archive, "-o", program]
+        made = answer([*compiler, *words, "-lpthread", "-ldl", "-lm"])
+        case.assertEqual(made.status, 0, made.err)
+        words = ["valgrind", "-q", "--leak-check=full", "--show-leak-kinds=all"]
+        words += ["--errors-for-leak-kinds=all", "--error-exitcode=9"]
+        done = answer([*words, program])
+        case.assertEqual(done[:2], (0, "0 failures\n"), done.err)
+
+
+def check_objects(case: Case, headers: str, libraries: str) -> None:
+    """Runs tests/objects.cpp over the headers and the static library of two folders by each compiler
+    of C++."""
+    strict = ["-std=c++17", "-Wpedantic", "-Wshadow", "-Wconversion", f"-I{headers}"]
+    compilers = [it for it in ("g++", "clang++") if shutil.which(it)]
+    if not compilers:
+        case.skipTest("the objects of C++: there is no compiler of C++")
+    for compiler in compilers:
+        with case.subTest(compiler=compiler):
+            archive = os.path.join(libraries, "libsimplecss.a")
+            check_kept(case, [compiler, *strict], archive, "objects.cpp")
 
 
 def read(*path: str) -> str:

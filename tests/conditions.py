@@ -1,11 +1,12 @@
-"""Media queries and conditions of `@supports` beside a browser: random lists of queries on devices of two
-kinds, random conditions, and the names of the properties that browsers know.
+"""Media queries and conditions of `@supports` beside a browser: the media queries of web-platform-tests
+with what Chromium says of them, random lists of queries on devices of three kinds, random conditions,
+and the names of the properties that browsers know.
 
 Texts have escapes, comments, stray brackets and words where none belong, the same in each run. What a
 device is, the browser says of itself. The named differences (`docs/DIFFERENCES.md`) are not tried:
-`calc()`, exponents, 65 parentheses, further units and features, values within 1/64 of a pixel, and
-values that a known property does not have. The browser is Debian's `chromium`; the library is built by
-`./build library`.
+functions but `calc()`, a quotient by zero, 65 parentheses, further units and features, values within
+1/64 of a pixel, and values that a known property does not have. The browser is Debian's `chromium`; the
+library is built by `./build library`.
 """
 from __future__ import annotations
 
@@ -15,36 +16,54 @@ import random
 import re
 import shutil
 import subprocess
-from typing import Any, Callable, Dict, List, NamedTuple, Sequence
+from typing import Any, Callable, Dict, Iterator, List, NamedTuple, Optional, Sequence
 
-from tests.common import TOP, Case, browser_answers, count, package
+from tests.common import TOP, Case, browser_answers, count, package, read, row
 
 package()
 import simplecss  # noqa: E402
 from simplecss._device import HOLDS, property_names, says  # noqa: E402
-from simplecss._names import names_of  # noqa: E402
 
 # fmt: off
-RANGED = ("width", "width", "width", "height", "resolution")
+LENGTHS = ("width", "height", "device-width", "device-height")
+RATIOS = ("aspect-ratio", "device-aspect-ratio")
+INTEGERS = ("color", "color-index", "monochrome")
+# Numbers whose names have bounds within, and what is 0 or 1: with a colon alone.
+OLD = ("-webkit-min-device-pixel-ratio", "-webkit-max-device-pixel-ratio", "-webkit-device-pixel-ratio")
+SWITCHES = ("grid", "-webkit-transform-3d")
+RANGED = ("width", "width", "width", *LENGTHS, "resolution", "resolution", *RATIOS, *INTEGERS, OLD[2])
 WORDS = {
     "orientation": ("portrait", "landscape"), "prefers-color-scheme": ("light", "dark"),
     "prefers-reduced-motion": ("no-preference", "reduce"), "hover": ("none", "hover"),
     "any-hover": ("none", "hover"), "pointer": ("none", "coarse", "fine"),
-    "any-pointer": ("none", "coarse", "fine"),
+    "any-pointer": ("none", "coarse", "fine"), "forced-colors": ("none", "active"),
+    "prefers-contrast": ("no-preference", "more", "less", "custom", "high"),
+    "prefers-reduced-transparency": ("no-preference", "reduce"),
+    "color-gamut": ("srgb", "p3", "rec2020"), "dynamic-range": ("standard", "high"),
+    "update": ("none", "slow", "fast"), "scripting": ("none", "initial-only", "enabled"),
+    "overflow-block": ("none", "scroll", "paged", "optional-paged"), "overflow-inline": ("none", "scroll"),
+    "display-mode": ("browser", "minimal-ui", "standalone", "fullscreen", "tabbed"),
+    "device-posture": ("continuous", "folded"),
 }
 NO_FEATURES = ("foo", "-foo", "--foo", "and", "not", "or", "only", "\\66 oo", "\xe9", "-", "1", "min-foo")
 PREFIXES = ("min-", "max-", "min-", "max-", "", "Min-", "mi\\6e-", "min-max-")
 NUMBERS = (
     "0", "1", "-1", "+1", "1280", "1280.0", "400", "2000", ".5", "1280.5", "8", "80", "1279", "1281",
-    "8.0", "+.5", "-0", "2", "192", "96", "1.5", "00001280", "500", "31.25",
+    "8.0", "+.5", "-0", "2", "192", "96", "1.5", "00001280", "500", "31.25", "1.28e3", "4E2", "2e-1",
+    "+1e+1", "-3e0", "1e", "1e+", "1.e2",
 )
 UNITS = (
-    "px", "px", "px", "em", "rem", "cm", "mm", "in", "pt", "pc", "Q", "PX", "q", "", "dppx", "x", "dpi",
+    "px", "px", "px", "em", "vw", "vh", "vmin", "VMAX", "vi", "vb", "rem", "cm", "mm", "in", "pt", "pc", "Q", "PX", "q", "", "dppx", "x", "dpi",
     "dpcm", "foo", "%", "p\\78 ", "s",
 )
 RESOLUTIONS = ("dppx", "x", "dpi", "dpcm", "px", "", "DPPX")
+# What calculations are of, and what is between.
+FACTORS = ("2", "4", ".5", "1e1", "-2", "+2", "3", "1")
+OPERATORS = (" + ", " - ", " * ", "*", "/", " / ", " +  ", "/**/ - /**/", "\n+\t")
+ODD_OPERATORS = ("+", "-", " +", "+ ", " ", ",", "/**/+/**/", " % ", " - - ", "")
 NO_VALUES = (
-    "foo", "1px 2px", "", "(1px)", "1px,2px", '"a"', "#a", "url(a)", "[a]", "1px / 2", "f(", "!", "1px;",
+    "foo", "1px 2px", "", "(1px)", "1px,2px", '"a"', "#a", "url(a)", "[a]", "1px 2/2", "f(", "calc()",
+    "calc(1px,1px)", "calc(1%", "calc (1px)", "calc(1px 1px)", "(calc(1px))", "calc(1%)", "calc(a)", "!", "1px;",
     "a:b", "infinite", "<", "{}", "\\",
 )
 SIGNS = ("<", "<=", ">", ">=")
@@ -83,12 +102,27 @@ SUPPORTED = (
 # The devices of the browser, by what it is told.
 BROWSERS = (
     ("--window-size=1280,800",),
-    ("--window-size=600,900", "--force-device-scale-factor=2", "--force-prefers-reduced-motion"),
+    (
+        "--window-size=600,900", "--force-device-scale-factor=2", "--force-prefers-reduced-motion",
+        "--force-color-profile=display-p3-d65",
+        "--blink-settings=primaryHoverType=1,availableHoverTypes=2,primaryPointerType=2,"
+        "availablePointerTypes=6,preferredContrast=1,preferredColorScheme=0,"
+        "prefersReducedTransparency=true,inForcedColors=true",
+    ),
+    (
+        "--window-size=900,700", "--screen-info={1600x1200}", "--force-color-profile=hdr10",
+        "--blink-settings=primaryHoverType=2,availableHoverTypes=2,primaryPointerType=4,"
+        "availablePointerTypes=4,preferredContrast=3",
+    ),
 )
+# The table of media queries, and what is answered otherwise, by words in the query.
+TABLE = "tests/media_queries.txt"
+OTHERWISE = ("scan", "sign(")
 # fmt: on
 PAGE = """<!DOCTYPE html><meta charset=utf-8><script id=input type="application/json">%s</script><body><script>
 const [media, supports] = JSON.parse(document.getElementById("input").textContent);
-const is = text => matchMedia(text).matches, hyphens = name => name.replace(/[A-Z]/g, c => "-" + c.toLowerCase());
+const is = text => matchMedia(text).matches, word = (name, ...words) => words.find(word => is(`(${name}: ${word})`));
+const hyphens = name => name.replace(/[A-Z]/g, c => "-" + c.toLowerCase());
 const names = [];
 for (const key in document.body.style) {
     const name = hyphens(key);
@@ -98,7 +132,14 @@ const answer = {
     device: {
         width: innerWidth, height: innerHeight, resolution: devicePixelRatio,
         dark: is("(prefers-color-scheme: dark)"), reduced_motion: is("(prefers-reduced-motion: reduce)"),
-        hover: is("(hover)"), pointer: ["none", "coarse", "fine"].find(word => is(`(pointer: ${word})`)),
+        hover: is("(hover)"), pointer: word("pointer", "none", "coarse", "fine"),
+        device_width: screen.width, device_height: screen.height,
+        color: [...Array(64).keys()].find(bits => is(`(color: ${bits})`)),
+        color_gamut: word("color-gamut", "rec2020", "p3", "srgb"), high_dynamic_range: is("(dynamic-range: high)"),
+        contrast: word("prefers-contrast", "no-preference", "more", "less", "custom"),
+        forced_colors: is("(forced-colors)"), reduced_transparency: is("(prefers-reduced-transparency)"),
+        any_hover: is("(any-hover)"),
+        any_pointer: ["none", "coarse", "fine"].filter(word => is(`(any-pointer: ${word})`)).join(" "),
     },
     media: media.map(is),
     supports: supports.map(text => CSS.supports(text)),
@@ -149,11 +190,52 @@ class Source(random.Random):
         """A value of a feature, or what is none."""
         if self.random() < 0.1:
             return self.choice(NO_VALUES)
-        if feature == "resolution":
-            return self.choice(NUMBERS) + self.choice(RESOLUTIONS)
         if feature in WORDS:
             return self.name(self.choice(WORDS[feature]))
+        if feature in RATIOS:
+            gap = self.gap() + "/" + self.gap()
+            others = [self.choice(NUMBERS) for _ in range(self.choice((0, 1, 1, 1, 2)))]
+            return gap.join([self.amount(lambda: self.choice(NUMBERS)), *others])
+        if feature in INTEGERS:
+            return self.amount(
+                lambda: self.choice(("8", "0", "1", "-1", "+8", "7", "10", "8.0", "08", "1e1"))
+            )
+        if feature in SWITCHES:
+            return self.choice(
+                ("0", "1", "-0", "+1", "01", "a", "calc(1 - 0)", "calc(0 * 1)", "calc(a)")
+            )
+        if feature in OLD:
+            return self.amount(lambda: self.choice(NUMBERS) + self.choice(("", "", "", "x")))
+        if feature == "resolution":
+            return self.amount(lambda: self.choice(NUMBERS) + self.choice(RESOLUTIONS))
+        return self.amount(self.length, self.united)
+
+    def length(self) -> str:
         return self.choice(NUMBERS) + (self.choice(UNITS) if self.random() < 0.5 else "px")
+
+    def united(self) -> str:
+        """A length with a unit: a browser takes a number near zero that is computed for one."""
+        return self.choice(NUMBERS) + self.choice([unit for unit in UNITS if unit])
+
+    def amount(self, one: Callable[[], str], within: Optional[Callable[[], str]] = None) -> str:
+        """An amount, or a calculation with such."""
+        return one() if self.random() < 0.8 else self.calculation(2, within or one)
+
+    def calculation(self, depth: int, one: Callable[[], str]) -> str:
+        name = self.name("calc") if depth == 2 or self.random() < 0.3 else ""
+        text = self.operand(depth - 1, one)
+        for _ in range(self.choice((0, 1, 1, 2))):
+            sign = self.choice(OPERATORS if self.random() < 0.95 else ODD_OPERATORS)
+            is_factor = "/" in sign.replace("/**/", "") or "*" in sign and self.random() < 0.9
+            text += sign + (self.choice(FACTORS) if is_factor else self.operand(depth - 1, one))
+        return f"{name}({self.gap()}{text}{self.gap()})"
+
+    def operand(self, depth: int, one: Callable[[], str]) -> str:
+        """A part of a calculation."""
+        form = self.random()
+        if depth and form < 0.3:
+            return self.calculation(depth, one)
+        return self.choice(FACTORS) if form < 0.4 and one != self.united else one()
 
     def sign(self) -> str:
         return self.choice(ODD_SIGNS if self.random() < 0.2 else SIGNS)
@@ -171,6 +253,9 @@ class Source(random.Random):
         feature = self.choice(RANGED if self.random() < 0.6 else tuple(WORDS))
         if self.random() < 0.06:
             feature = self.choice(NO_FEATURES)
+        if self.random() < 0.08:
+            feature = self.choice(OLD + SWITCHES)
+            return self.spaced(self.name(feature), ":", self.value(feature))
         if form < 0.15:
             return self.name(feature)
         if form < 0.55:
@@ -266,6 +351,31 @@ def version_found() -> str:
     return number[1].decode() if number else ""
 
 
+# Names of drafts and of other browsers, which Chromium does not read, and the pseudo-elements that CSS 2
+# writes with one colon.
+OTHERS = {
+    "pseudo-classes": (
+        "blank buffering first has-slotted heading left local-link muted nth-col nth-last-col paused"
+        " playing right seeking stalled target-within volume-locked"
+    ).split(),
+    "pseudo-elements": (
+        "clear-icon color-swatch cue-region field-component field-text footnote-call"
+        " footnote-marker nth-fragment placeholder-icon reveal-icon slider-fill slider-thumb"
+        " slider-track step-control step-down step-up"
+    ).split(),
+}
+SHORT = ("after", "before", "first-letter", "first-line")
+
+
+def names_of(kind: str) -> List[str]:
+    """The names of a kind that `lint` knows."""
+    with open(os.path.join(TOP, "crates/css_lint/src/data.rt"), encoding="utf-8") as file:
+        text = file.read()
+    name = kind.upper().replace("-", "_")
+    found = re.search(rf'pub const {name}: &str = "([^"]*)"', text)
+    return found[1].replace("\\\n", "").split() if found else []
+
+
 def version_of_names() -> str:
     """The version of the browser whose names the package has."""
     path = os.path.join(TOP, "python/src/simplecss/properties.txt")
@@ -275,59 +385,92 @@ def version_of_names() -> str:
 
 
 class Conditions(Case):
-    def browser(self, options: Sequence[str], media: List[str], supports: List[str]) -> Any:
-        found = browser_answers(PAGE, [media, supports], options)
-        if found is None:
-            self.skipTest("no browser answers")
-        return found
+    def compare(self, name: str, texts: Sequence[str], options: Sequence[str] = ()) -> None:
+        """Compares what the library says of conditions with a browser's answers. `@supports` asks nothing
+        of the device."""
+        device: Dict[str, Any] = {}
 
-    def compare(
-        self, name: str, texts: Sequence[str], answers: Sequence[bool], device: simplecss.Device
-    ) -> None:
-        """Compares what the library says with a browser's answers."""
+        def browser(texts: List[str]) -> Optional[List[bool]]:
+            work = {"media": [], "supports": [], name: texts}
+            found = browser_answers(PAGE, [work["media"], work["supports"]], options)
+            if found is None:
+                return None
+            device.update(found["device"] if name == "media" else {})
+            # As many hold as would show a library that always says no.
+            self.assertGreater(sum(found[name]), len(texts) // 20)
+            return list(found[name])
+
+        def question(text: str, answer: bool) -> Iterator[Optional[str]]:
+            on = simplecss.Device(**device)
+            holds = says(simplecss.Condition(name, text), on) == HOLDS
+            yield row(f"{json.dumps(text)} on {on}", holds, answer)
+
+        self.against(browser, texts, question)
+
+    def test_table(self) -> None:
+        """What Chromium says of the media queries of web-platform-tests, on each of its devices."""
+        lines = read(TABLE).splitlines()
+        devices = [json.loads(line[2:]) for line in lines if line.startswith("# {")]
+        rows = [line.split(" ", 1) for line in lines if not line.startswith("#")]
         failures = [
-            f"{json.dumps(text)} on {device}: {says(simplecss.Condition(name, text), device)}"
-            for text, answer in zip(texts, answers)
-            if (says(simplecss.Condition(name, text), device) == HOLDS) != answer
+            f"{text} on {device}: {found}"
+            for answers, text in rows
+            for answer, device in zip(answers, devices)
+            for found in [
+                says(simplecss.Condition("media", json.loads(text)), simplecss.Device(**device))
+            ]
+            if (found == HOLDS) != (answer == "1")
         ]
-        # As many hold as would show a library that always says no.
-        self.assertGreater(sum(answers), len(answers) // 20)
-        self.sweep(len(texts), failures)
+        expected = [line for line in failures if any(word in line for word in OTHERWISE)]
+        self.assertTrue(all(any(word in line for line in expected) for word in OTHERWISE))
+        self.sweep(len(rows) * len(devices), [line for line in failures if line not in expected])
 
     def test_media(self) -> None:
         source = Source("media")
         for options in BROWSERS:
-            texts = [source.media() for _ in range(count(2_000))]
-            found = self.browser(options, texts, [])
-            self.compare("media", texts, found["media"], simplecss.Device(**found["device"]))
+            self.compare("media", [source.media() for _ in range(count(2_000))], options)
 
     def test_supports(self) -> None:
         source = Source("supports")
-        texts = [source.supports() for _ in range(count(2_000))]
-        found = self.browser((), [], texts)
-        self.compare("supports", texts, found["supports"], simplecss.Device())
+        self.compare("supports", [source.supports() for _ in range(count(2_000))])
+
+    def browser(self, supports: Sequence[str]) -> Any:
+        """What the browser says of itself, and of conditions."""
+        if version_found() != version_of_names():
+            self.skipTest(f"names of browsers are those of Chromium {version_of_names()}")
+        found = browser_answers(PAGE, [[], supports])
+        self.assertIsNotNone(found, "the browser does not answer")
+        return found
 
     def test_names_in_selectors(self) -> None:
         """The browser reads the pseudo-classes and pseudo-elements that it is said to read, alone or
         with one of some arguments, and not the others."""
-        if version_found() != version_of_names():
-            self.skipTest(f"names in selectors are those of Chromium {version_of_names()}")
         arguments = ("", "(a)", "(1n)", "(ltr)", "(*)", "(select)", "(left)")
         for kind, colons in (("pseudo-classes", ":"), ("pseudo-elements", "::")):
-            known, others = names_of(kind), names_of(f"other {kind}")
+            others = OTHERS[kind]
+            known = [
+                each
+                for each in names_of(kind)
+                if each not in others and (each not in SHORT or colons == "::")
+            ]
             texts = [
                 f"selector({colons}{name}{each})"
                 for name in (*known, *others)
                 for each in arguments
             ]
-            answers = self.browser((), [], texts)["supports"]
+            answers = self.browser(texts)["supports"]
             size = len(arguments)
             read = [any(answers[at : at + size]) for at in range(0, len(answers), size)]
             self.assertEqual(read, [True] * len(known) + [False] * len(others))
 
     def test_property_names(self) -> None:
-        version = version_of_names()
-        found = self.browser((), [], [])
-        if version_found() != version:
-            self.skipTest(f"names of properties are those of Chromium {version}")
-        self.assertEqual(sorted(property_names()), sorted(set(found["names"])))
+        self.assertEqual(sorted(property_names()), sorted(set(self.browser([])["names"])))
+
+    def test_names_of_lint(self) -> None:
+        """Those that `lint` knows are in the order of the alphabet, and the properties of Chromium are
+        among them."""
+        kinds = "properties descriptors at-rules media-features pseudo-classes pseudo-elements"
+        for kind in (*kinds.split(), "functions", "math-functions", "units", "types"):
+            names = names_of(kind)
+            self.assertEqual(names, sorted(set(names)), kind)
+        self.assertLessEqual(set(property_names()), set(names_of("properties")))

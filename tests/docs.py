@@ -2,22 +2,27 @@
 
 A block of code below a line `<!-- from FILE -->` is in that file, apart from indentation; so is one
 in the documentation of an item. The table of commands of docs/PROGRAM.md shows what the program
-prints, with the files of the blocks below lines `<!-- file NAME -->`, of which page.tree is what
-tools/html_tree.py writes of page.html. The words of the lines of examples/README.md are files of
-the repository. What docs/DIFFERENCES.md shows of sheets is what the program prints. The files that
+prints, with the files of the blocks below lines `<!-- file NAME -->`, of which page.tree is the tree of
+page.html. The words of the lines of examples/README.md, and of the
+README's lines of a shell, are files of the repository. What docs/DIFFERENCES.md shows of sheets is what the program prints. The files that
 the recipes of docs/ARCHITECTURE.md name exist, and so do those that links lead to. The lines of
-docs/RATTLE.md below `<!-- run -->` are run in an empty folder. There are no other blocks.
-docs/CONTRACTS.md and docs/crates.svg are what tools write. The claims of tests/claims.txt are in
+docs/RATTLE.md below `<!-- run -->` are run in an empty folder. What docs/first_steps/PYTHON.md and
+docs/RECIPES.md show is run over the built C library (shown.py); the first steps in other languages are
+run by checkout.py. There are no other blocks. `./build docs` makes a site of all pages, without a link that
+leads nowhere. docs/CONTRACTS.md and docs/crates.svg are what tools write. The claims of tests/claims.txt are in
 their documents, and carried by clauses of functions that the program or the C library reaches
 (claims.py). A count of tests is raised in two places only, where an element is tested. Sentences
 have at most 20 words on average in each document, half of the first sentences of what documents
-public names at most ten, and the README, docs/, SECURITY.md and CONTRIBUTING.md at most 12,500 words
-in all. Some phrases are in none of these. The README's figures are those of the sources. A file that
+public names at most ten, the README at most 900 words, and it, docs/, SECURITY.md and CONTRIBUTING.md
+at most 19,800 words in all. Some phrases are in none of these. The README's figures are those of the sources. A file that
 begins with `#!` may be run, and no other. The version is the same everywhere.
 """
 from __future__ import annotations
 
 import ast
+import contextlib
+import io
+import json
 import os
 import re
 import shlex
@@ -28,14 +33,31 @@ import tempfile
 import unittest
 from pathlib import Path
 from typing import Dict, Iterator, List, Sequence, Tuple
+from unittest import mock
 
-from tests import claims
-from tests.common import TOP, Case, answer, kit, program, read, version, write
+from tests import claims, shown
+from tests.common import (
+    TOP,
+    Case,
+    answer,
+    kit,
+    library_path,
+    package,
+    program,
+    read,
+    version,
+    write,
+)
+from tools import make_site
 
 # How many words a sentence has at most, on average, and how many the documents have in all: what has a
 # letter or a digit is a word, and the strokes of a table are none. How many words the first sentence of
 # what documents a name has at most, in the middle.
-LONGEST, MOST, FIRST = 20, 12_500, 10
+LONGEST, MOST, FIRST = 20, 19_800, 10
+# How many words the README has at most.
+FIRST_PAGE = 900
+# The page of what lint reports, which python/tests/test_lint.py compares with the library.
+LINT = "docs/LINT.md"
 # Where the version stands, besides include/simplecss.h.
 VERSIONS = (
     ("include/simplecss.h", r'as "(\d.*)"\.'),
@@ -83,8 +105,8 @@ CARRIED: Dict[str, Dict[str, str]] = {
         "`simplecss`": "test_simplecss.CommandLine.test_lint", "`cssq`": "program.Words.test_answers",
         "modern": "test_simplecss.CommandLine.test_lint", "the port": "program.Words.test_answers"},
     "Rattle": {
-        "the crates": "tests_matching", "contracts": "example_modern",
-        "modern": "modern_selectors.Index.test_random_selectors", "the port": "tests_matching"},
+        "the crates": "tests_port", "contracts": "example_modern",
+        "modern": "modern_selectors.Index.test_random_selectors", "the port": "tests_port"},
 }
 # fmt: on
 
@@ -152,13 +174,18 @@ def names_of_files() -> List[str]:
 
 NAMES = names_of_files()
 EXPORTED = re.findall(r'^    "(\w+)",$', read("python/src/simplecss/__init__.py"), re.MULTILINE)
-PAGES = [(name, read(name)) for name in NAMES if re.fullmatch(r"(docs/|examples/)?\w+\.md", name)]
+PAGES = [
+    (name, read(name))
+    for name in NAMES
+    if re.fullmatch(r"(docs/(first_steps/)?|examples/)?\w+\.md", name)
+]
 
 
 def documents() -> List[Tuple[str, str]]:
     """The pages, and the documentation of sources with blocks that name where they are from."""
     sources = [(name, read(name)) for name in NAMES if name.endswith(".rt")]
-    return PAGES + [(name, documentation(text)) for name, text in sources if "<!-- from " in text]
+    pages = [page for page in PAGES if page[0] != LINT]
+    return pages + [(name, documentation(text)) for name, text in sources if "<!-- from " in text]
 
 
 def choices(path: str) -> List[str]:
@@ -203,7 +230,7 @@ class Sources(Case):
                     if source:
                         self.assertTrue(is_within(block, read(source[1])), source[1])
                     else:
-                        is_known = above.startswith("<!-- file ") or above == "<!-- run -->"
+                        is_known = above == "<!-- run -->" or bool(shown.MARK.fullmatch(above))
                         self.assertTrue(is_known, "no source is named")
                 named += above.startswith("<!-- from ")
         self.assertGreater(named, 0, "no document names a source")
@@ -243,18 +270,57 @@ class Sources(Case):
 
     def test_claims(self) -> None:
         """Claims are in their documents, and what carries them is reached and says so."""
-        top = Path(TOP)
-        shipped = claims.reached(top)
         found = list(claims.claims_of(read("tests/claims.txt")))
         for claim in found:
             with self.subTest(claim=claim.words):
                 is_said = claims.spaced(claim.words) in claims.spaced(read(claim.document))
                 self.assertTrue(is_said, f"{claim.document} does not say it")
                 self.assertTrue(claim.carriers, "nothing carries it")
+        self.are_carried(found, claims.reached(Path(TOP)))
+        self.assertGreater(len(found), 15)
+
+    def are_carried(self, found: Sequence[claims.Claim], shipped: set[claims.Function]) -> None:
+        """Whether what carries claims is among the functions that are reached, and says so."""
+        for claim in found:
             for carrier in claim.carriers:
                 with self.subTest(claim=claim.words, carrier=carrier):
-                    self.assertEqual(claims.fault_of(carrier, top, shipped), "")
-        self.assertGreater(len(found), 15)
+                    self.assertEqual(claims.fault_of(carrier, Path(TOP), shipped), "")
+
+    def test_claims_by_type(self) -> None:
+        """What carries the claims is called on its own type, by the compiled code."""
+        compiled = claims.compiled_below(Path(TOP))
+        if compiled is None:
+            self.skipTest(
+                "the calls of the claims by type: ./build library has not proved the libraries"
+            )
+        found = list(claims.claims_of(read("tests/claims.txt")))
+        self.are_carried(found, claims.reached_by_type(Path(TOP), compiled))
+
+    def test_compiled_calls(self) -> None:
+        """A method of another type with the same name is not reached, nor another method of the
+        type; a closure is, and all of an `impl` that is handed on."""
+        code = [
+            [
+                "a::f",
+                {
+                    "types": ["a::Other"],
+                    "body": ["Seq", {"Call": [{"Fn": ["a::One::read", {"dicts": []}]}]}],
+                },
+            ],
+            [
+                "a::One::read",
+                {"body": [{"Fn": ["b::each", {"dicts": [{"Impl": ["a::OneShow", []]}]}]}]},
+            ],
+            ["a::OneShow::show", {"body": [{"Impl": ["a::fn::show::map+FnMut", []]}]}],
+            ["a::fn::show::map+FnMut::call_mut", {"body": [{"Fn": ["a::last", {}]}]}],
+            ["a::last", {"body": []}],
+            ["a::One::write", {"body": []}],
+            ["a::Other::read", {"body": []}],
+            ["a::OtherShow::show", {"body": []}],
+        ]
+        compiled = claims.read_compiled(json.dumps(code))
+        left = sorted(set(compiled) - claims.named_from(["a::f"], compiled))
+        self.assertEqual(left, ["a::One::write", "a::Other::read", "a::OtherShow::show"])
 
     def test_ticks(self) -> None:
         """Counts of tests are raised in three places only, where an element is tested: anybody may
@@ -372,11 +438,27 @@ def numbers_of_sources() -> Dict[str, int]:
         "code": sum(it.count("\n") for it in code),
         "definitions": logic["specs"],
         "proofs": logic["proofs"],
-        "mutations": sum(bool(re.search(r"/must-fail/.*\.edit$", name)) for name in NAMES),
+        "mutations": sum(
+            bool(re.search(r"/(?:must-fail|mutants)/.*\.edit$", name)) for name in NAMES
+        ),
     }
 
 
 class Figures(Case):
+    def test_lines_of_a_shell(self) -> None:
+        """The files that the README's lines of a shell name are here, or an earlier line writes them."""
+        found = re.search(r"\*\*A shell\*\*(?:.+\n)+\n((?:    .+\n)+)", read("README.md"))
+        assert found
+        made = set()
+        for line in found[1].splitlines():
+            words = shlex.split(line)
+            for before, word in zip(["", *words], words):
+                if before == ">":
+                    made.add(word)
+                elif "." in word and word not in made:
+                    with self.subTest(line=line, word=word):
+                        self.assertTrue(os.path.isfile(os.path.join(TOP, word)))
+
     def test_figures(self) -> None:
         """The README's figures of the proofs are within a tenth of those of the sources."""
         number = r"(\d[\d,]*)"
@@ -390,6 +472,22 @@ class Figures(Case):
         for (what, counted), told in zip(numbers_of_sources().items(), numbers):
             with self.subTest(what=what):
                 self.assertLessEqual(abs(counted - told) * 10, told, f"{counted}, not {told}")
+
+    def test_believed(self) -> None:
+        """So are the figures of docs/PROOFS.md of what must be believed."""
+        row = r"^\| .* \| ([\d,]+) \| ([\d,]+) \| `(\w+)/(\S+) (\w+)` \|$"
+        rows = re.findall(row, read("docs/PROOFS.md"), re.MULTILINE)
+        for *said, crate, file, function in rows:
+            with self.subTest(function=function):
+                words = [sys.executable, os.path.join(TOP, "tools", "believed.py")]
+                first = answer([*words, crate, file, function]).out.split("\n")[0].split()
+                for told, counted in zip(said, first):
+                    number, due = (int(it.replace(",", "")) for it in (told, counted))
+                    self.assertLessEqual(abs(due - number) * 10, number, f"{due}, not {number}")
+        self.assertEqual(len(rows), 5)
+        (most,) = re.findall(r"([\d,]+) lines of definitions and not", read("README.md"))
+        lines = max(int(it[1].replace(",", "")) for it in rows)
+        self.assertLessEqual(abs(lines - int(most.replace(",", ""))) * 10, lines)
 
 
 class Lengths(Case):
@@ -412,7 +510,7 @@ class Lengths(Case):
         python = [text for name, text in documented() if ".py: " in name and text]
         for what, names in (
             ("the crates", r"crates/(?!tests_|example_)\w+/src/.*\.rt"),
-            ("the Rust crate", r"release/rust/src/\w+\.rs"),
+            ("the Rust crate", r"release/rust/src/(modern/)?\w+\.rs"),
             ("the npm package", r"release/npm/index\.d\.ts"),
         ):
             texts = [
@@ -424,13 +522,14 @@ class Lengths(Case):
             self.assertLessEqual(statistics.median(map(first_words, python)), FIRST)
 
     def test_words(self) -> None:
-        counted = sum(
-            bool(re.search(r"\w", word))
+        counted = {
+            name: sum(bool(re.search(r"\w", word)) for word in text.split())
             for name, text in PAGES
-            if re.fullmatch(r"(README|SECURITY|CONTRIBUTING|docs/\w+)\.md", name)
-            for word in text.split()
-        )
-        self.assertLessEqual(counted, MOST)
+            if re.fullmatch(r"(README|SECURITY|CONTRIBUTING|docs/[\w/]+)\.md", name)
+            and name != LINT
+        }
+        self.assertLessEqual(counted["README.md"], FIRST_PAGE)
+        self.assertLessEqual(sum(counted.values()), MOST)
 
 
 class Shown(Case):
@@ -457,11 +556,6 @@ class Shown(Case):
         """The table of commands of docs/PROGRAM.md."""
         for name, block in files_in("docs/PROGRAM.md"):
             write(os.path.join(self.folder, name), "\n".join(block) + "\n")
-        got = answer(
-            [sys.executable, os.path.join(TOP, "tools", "html_tree.py"), "page.html"],
-            cwd=self.folder,
-        )
-        self.assertEqual((got.status, got.out), (0, read(self.folder, "page.tree")))
         tried = set()
         rows = re.findall(
             r"^\| `\./cssq ([^`]*)` \| (.*) \|$", read("docs/PROGRAM.md"), re.MULTILINE
@@ -474,8 +568,10 @@ class Shown(Case):
                 )
                 words = shlex.split(line)
                 tried.add(words[0])
-                got = answer([program("cssq_cli"), *words], cwd=self.folder)
-                self.assertEqual((got.status, got.out), (0, text))
+                for tree in ("page.html", "page.tree"):
+                    named = [tree if it == "page.html" else it for it in words]
+                    got = answer([program("cssq_cli"), *named], cwd=self.folder)
+                    self.assertEqual((got.status, got.out), (0, text))
         usage = answer([program("cssq_cli"), "--no-such-word"]).err
         self.assertEqual(tried, set(re.findall(r"[\[|] *(\w+)", usage)))
 
@@ -493,6 +589,70 @@ class Shown(Case):
                 if "/" in word:
                     with self.subTest(program=name, word=word):
                         self.assertTrue(os.path.isfile(os.path.join(TOP, word)))
+
+
+class Site(Case):
+    def test_missing(self) -> None:
+        """Where Sphinx is missing, a line says what to install."""
+        shown_line = io.StringIO()
+        with mock.patch.object(make_site, "find_python", return_value=""):
+            with contextlib.redirect_stderr(shown_line):
+                self.assertEqual(make_site.main([]), 1)
+        packages = " ".join(make_site.NEEDED.values())
+        self.assertEqual(
+            shown_line.getvalue(),
+            f"build: no site is made: it needs Debian's packages {packages}\n",
+        )
+
+    def test_site(self) -> None:
+        """The site has all pages, whose links lead somewhere, and a search."""
+        if not make_site.find_python():
+            self.skipTest(
+                f"the site of the documents: {' or '.join(make_site.NEEDED.values())} is missing"
+            )
+        with tempfile.TemporaryDirectory() as folder:
+            made = answer([os.path.join(TOP, "build"), "docs", folder], cwd=TOP)
+            self.assertEqual(made.status, 0, made.err[-2000:])
+            for name in ["index", "search", *(name[:-3] for name, _ in PAGES)]:
+                with self.subTest(page=name):
+                    self.assertTrue(os.path.isfile(os.path.join(folder, f"{name}.html")))
+            with open(os.path.join(folder, "searchindex.js"), encoding="utf-8") as file:
+                self.assertIn("newslett", file.read())
+
+
+class Sessions(Case):
+    """What pages show of the Python package and its command."""
+
+    def setUp(self) -> None:
+        folder = tempfile.TemporaryDirectory()
+        self.addCleanup(folder.cleanup)
+        self.folder = folder.name
+        try:
+            library = library_path()
+        except FileNotFoundError as why:
+            self.skipTest(f"the sessions of the documents: {why}")
+        package()
+        command = os.path.join(self.folder, "bin", "simplecss")
+        os.makedirs(os.path.dirname(command))
+        write(command, f'#!/bin/sh\nexec {shlex.quote(sys.executable)} -m simplecss "$@"\n')
+        os.chmod(command, 0o755)
+        path = os.pathsep.join((os.path.dirname(command), os.environ["PATH"]))
+        source = os.path.join(TOP, "python", "src")
+        self.environment = {**os.environ, "PATH": path, "PYTHONPATH": source}
+        self.environment["SIMPLECSS_LIBRARY"] = library
+
+    def run_page(self, name: str, compared: int) -> None:
+        """Runs a page, of which this many blocks are compared."""
+        folder = os.path.join(self.folder, "page")
+        os.makedirs(folder)
+        page = shown.Page(self, name, folder, self.environment)
+        self.assertEqual(page.run(read(name)), compared)
+
+    def test_first_steps(self) -> None:
+        self.run_page("docs/first_steps/PYTHON.md", 6)
+
+    def test_recipes(self) -> None:
+        self.run_page("docs/RECIPES.md", 16)
 
 
 class Rattle(Case):

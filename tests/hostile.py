@@ -13,7 +13,7 @@ import os
 import random
 import shutil
 import tempfile
-from typing import Any, Dict, List, NamedTuple, Sequence, Union
+from typing import Any, Dict, Iterator, List, NamedTuple, Optional, Sequence, Union
 from xml.parsers import expat
 
 from tests.common import Case, browser_answers, count, package, write
@@ -22,7 +22,7 @@ package()
 import simplecss  # noqa: E402
 
 # How many pages one run of the browser opens.
-RUN = 250
+RUN = 100
 # What a script does that runs: 1 in a page, 2 if it comes of a sheet beside it.
 PAGE_RAN, SHEET_RAN = "top.ran(1,location.href)", "top.ran(2,location.href)"
 # fmt: off
@@ -452,15 +452,19 @@ class Hostile(Case):
     def test_pages(self) -> None:
         """A browser finds nothing after `inline` that it did not before."""
         source = Source(int(os.environ.get("SEED", 1)))
-        pages = [source.page() for _ in range(count(2000))]
-        failures = []
-        for first in range(0, len(pages), RUN):
+
+        def browser(pages: List[Page]) -> List[Optional[str]]:
+            found: Dict[int, str] = {}
+            for first in range(0, len(pages), RUN):
+                with tempfile.TemporaryDirectory() as folder:
+                    found.update(self.opened(pages[first : first + RUN], first, folder))
+            return [found.get(number) for number in range(len(pages))]
+
+        def question(page: Page, how: Optional[str]) -> Iterator[Optional[str]]:
             with tempfile.TemporaryDirectory() as folder:
-                found = self.opened(pages[first : first + RUN], first, folder)
-                for number, how in found.items():
-                    shown = f"{pages[number]!r}\n  {inlined(pages[number], folder)!r}"
-                    failures.append(f"page {number}, {how}\n  {shown}")
-        self.sweep(len(pages), failures)
+                yield how and f"{how}\n  {page!r}\n  {inlined(page, folder)!r}"
+
+        self.against(browser, [source.page() for _ in range(count(300))], question)
 
     def opened(self, pages: List[Page], first: int, folder: str) -> Dict[int, str]:
         """Returns what a browser finds of pages after `inline` that it did not before; those that

@@ -10,11 +10,11 @@ from __future__ import annotations
 import json
 import os
 import random
-import subprocess
 import time
-from typing import Any, Callable, Dict, List, Optional, Sequence, Tuple
+from functools import partial
+from typing import Any, Callable, Dict, Iterator, List, Optional, Sequence, Tuple
 
-from tests.common import DEBIAN, Case, browser_answers, count, has_modules, package
+from tests.common import LEFT_OUT, Case, browser_answers, count, debian_answers, package, row
 
 package()
 from simplecss import StyleSheet, Tree  # noqa: E402
@@ -73,6 +73,20 @@ for (const text of JSON.parse(document.getElementById("input").textContent)) {
 document.documentElement.textContent = "ANS" + "WER" + JSON.stringify(answers) + "END";
 </script>""".replace(
     "STATES", json.dumps(STATES)
+)
+
+# The same of the pages as XHTML, each of which is before its answers.
+XML_SCRIPT = (
+    SCRIPT[: SCRIPT.index("for (const text of")]
+    + """
+for (const text of JSON.parse(document.getElementById("input").textContent)) {
+    const parser = new DOMParser(), page = parser.parseFromString(text, "text/html");
+    const xml = new XMLSerializer().serializeToString(page.documentElement);
+    const read = parser.parseFromString(xml, "application/xhtml+xml");
+    answers.push([xml, [...read.body.querySelectorAll("*")].map(each => [each.localName, names.map(name => isIn(each, name))])]);
+}
+document.documentElement.textContent = "ANS" + "WER" + JSON.stringify(answers) + "END";
+</script>"""
 )
 
 SOUP = r"""
@@ -250,66 +264,73 @@ class Source(random.Random):
 Answers = List[Tuple[str, List[Optional[bool]]]]
 
 
-def ours(text: str) -> Answers:
+def ours(tree: Tree) -> Answers:
     """What the library says of a page."""
-    tree = Tree.from_html(text)
     found = [{each.index for each in tree.select(f"body :{state}")} for state in STATES]
     return [
         (each.name, [each.index in indices for indices in found]) for each in tree.select("body *")
     ]
 
 
-def differing(text: str, answers: Sequence[Any], states: Sequence[str] = STATES) -> List[str]:
-    """Where the answers on a page differ from those of the library."""
-    mine = ours(text)
-    if [each[0] for each in mine] != [each[0] for each in answers]:
-        return [f"other elements: {text}"]
-    return [
-        f"{number}. {name}:{state} is {here} and {there}\n  {text}"
-        for number, ((name, found), (_, others)) in enumerate(zip(mine, answers))
-        for state, here, there in zip(STATES, found, others)
-        if state in states and there is not None and here != there
-    ]
+def compared(
+    text: str, tree: Tree, answers: Sequence[Any], states: Sequence[str] = STATES
+) -> Iterator[Optional[str]]:
+    """A row for each state, of all elements of a page. What is not compared is None in the answers."""
+    mine = ours(tree)
+    names = row(text, [each[0] for each in mine], [each[0] for each in answers])
+    for at, state in enumerate(STATES):
+        if state in states:
+            due = [found[at] for _, found in answers]
+            pairs = zip(mine, due)
+            found = [None if each is None else in_states[at] for (_, in_states), each in pairs]
+            yield names or row(f"{state} of the elements of {text}", found, due)
 
 
 class Forms(Case):
     def setUp(self) -> None:
         source = Source(int(os.environ.get("SEED", 1)))
-        self.pages = [source.page() for _ in range(count(1500))]
+        self.pages = [source.page() for _ in range(count(600))]
 
     def test_browser(self) -> None:
         """The elements of random pages are in the states in which a browser's are."""
-        failures: List[str] = []
-        for first in range(0, len(self.pages), 500):
-            pages = self.pages[first : first + 500]
-            answers = browser_answers(SCRIPT, pages)
-            if answers is None:
-                self.skipTest("states of forms: there is no chromium")
-            for page, answer in zip(pages, answers):
-                failures += differing(page, answer)
-        self.sweep(len(self.pages) * len(STATES), failures)
+
+        def browser(pages: List[str]) -> Optional[List[Any]]:
+            parts = [pages[at : at + 500] for at in range(0, len(pages), 500)]
+            found = [browser_answers(SCRIPT, part) for part in parts]
+            return None if None in found else [each for part in found for each in part or ()]
+
+        def question(page: str, answers: Any) -> Iterator[Optional[str]]:
+            return compared(page, Tree.from_html(page), answers)
+
+        self.against(browser, self.pages, question, "states of forms: there is no chromium")
+
+    def test_xhtml(self) -> None:
+        """So they are as XHTML."""
+
+        def question(_: str, answers: Any) -> Iterator[Optional[str]]:
+            return compared(answers[0], Tree.from_xml(answers[0]), answers[1])
+
+        missing = "states of forms in XHTML: there is no chromium"
+        self.against(partial(browser_answers, XML_SCRIPT), self.pages[:500], question, missing)
 
     def test_soup(self) -> None:
         """And in those in which soupsieve has them, of the two states of which it takes the same attributes
         into account."""
-        if not has_modules(DEBIAN, "soupsieve", "bs4", "html5lib"):
-            self.skipTest("states of forms: there is no soupsieve")
-        pages, states = self.pages[:300], ("checked", "indeterminate")
-        made = subprocess.run(
-            [DEBIAN, "-c", SOUP],
-            input=json.dumps([pages, STATES, states]),
-            stdout=subprocess.PIPE,
-            text=True,
-            check=True,
-        )
-        failures, compared = [], 0
-        for page, answer in zip(pages, json.loads(made.stdout)):
+        states = ("checked", "indeterminate")
+
+        def soup(pages: List[str]) -> Optional[List[Any]]:
+            return debian_answers(SOUP, [pages, STATES, states], "soupsieve", "bs4", "html5lib")
+
+        def question(page: str, answers: Any) -> Iterator[Optional[str]]:
             # html5lib has fewer elements in a `select`.
-            if [each[0] for each in answer] == [each[0] for each in ours(page)]:
-                failures += differing(page, answer, states)
-                compared += 1
-        self.assertGreater(compared, len(pages) // 3)
-        self.sweep(compared * len(states), failures)
+            tree = Tree.from_html(page)
+            if [each[0] for each in answers] != [each[0] for each in ours(tree)]:
+                return iter([LEFT_OUT] * len(states))
+            return compared(page, tree, answers, states)
+
+        pages, missing = self.pages[:300], "states of forms: there is no soupsieve"
+        left_out = self.against(soup, pages, question, missing)
+        self.assertLess(left_out, len(states) * len(pages) * 2 / 3)
 
 
 class Rows(Case):

@@ -10,13 +10,15 @@ tried: known at-rules whose preludes are invalid, unknown pseudo-classes, and co
 from __future__ import annotations
 
 import html
-import os
 import random
 import urllib.parse
-from typing import Any, Callable, Dict, List, NamedTuple, Optional, Sequence
+from typing import Any, Callable, Dict, Iterator, List, NamedTuple, Optional, Tuple
 
-from tests.common import Case, browser_answers, count, library_path, package
+from tests.common import Case, browser_answers, count, package, row, rows
 from tests.syntax import Fields, fields_of
+
+package()
+from simplecss import StyleSheet, Tree  # noqa: E402
 
 # fmt: off
 URLS = (
@@ -163,27 +165,27 @@ class Imports(Case):
     def compare(self, make: Callable[[], str], usual: int) -> None:
         """Compares imports of sheets with those that the browser has."""
         sheets = [make() for _ in range(count(usual))]
-        read = list(fields_of("imports", sheets))
-        layers = sorted({each[1][1:] for one in read for each in one} - {""})
-        media = sorted({each[3] for one in read for each in one})
-        found = browser_answers(PAGE, {"sheets": sheets, "layers": layers, "media": media})
-        if found is None:
-            self.skipTest("no browser answers")
-        names = dict(zip(layers, found["layers"]))
-        queries = dict(zip(media, found["media"]))
-        failures = [
-            f"{text!r}: {ours} and not {theirs}"
-            for text, one, answers in zip(sheets, read, found["sheets"])
-            for ours, theirs in (
-                (
-                    [printed(each, names, queries) for each in one],
-                    [compared(*each) for each in answers],
-                ),
-            )
-            if ours != theirs
-        ]
-        self.assertGreater(sum(map(len, found["sheets"])), len(sheets) // 4)
-        self.sweep(len(sheets), failures)
+        names: Dict[str, Any] = {}
+        queries: Dict[str, Any] = {}
+
+        def browser(asked: List[Tuple[str, List[Fields]]]) -> Optional[List[Any]]:
+            every = [each for _, read in asked for each in read]
+            layers = sorted({layer[1:] for _, layer, _, _ in every} - {""})
+            media = sorted({query for _, _, _, query in every})
+            found = browser_answers(PAGE, {"sheets": sheets, "layers": layers, "media": media})
+            if found is None:
+                return None
+            names.update(zip(layers, found["layers"]))
+            queries.update(zip(media, found["media"]))
+            self.assertGreater(sum(map(len, found["sheets"])), len(sheets) // 4)
+            return list(found["sheets"])
+
+        def question(one: Tuple[str, List[Fields]], imports: Any) -> Iterator[Optional[str]]:
+            text, read = one
+            found = [printed(each, names, queries) for each in read]
+            yield row(repr(text), found, [compared(*each) for each in imports])
+
+        self.against(browser, zip(sheets, fields_of("imports", sheets)), question)
 
     def test_one(self) -> None:
         """A sheet of one import."""
@@ -314,33 +316,26 @@ class Importing(random.Random):
 class Winning(Case):
     def test_winners(self) -> None:
         """What wins of sheets that a page has, links to and imports, and that these import."""
-        os.environ.setdefault("SIMPLECSS_LIBRARY", library_path())
-        package()
-        from simplecss import StyleSheet, Tree
-
         source = Importing("imported")
         pages = [source.page() for _ in range(count(1_000))]
-        cases = [{"sheets": [one._asdict() for one in each], "body": BODY} for each in pages]
-        found = browser_answers(WON, {"names": list(INITIAL), "cases": cases})
-        if found is None:
-            self.skipTest("no browser answers")
-        failures, total = [], 0
-        for page, answer in zip(pages, found):
+        initial = list(INITIAL.values())
+
+        def browser(pages: List[List[Imported]]) -> Optional[List[Any]]:
+            cases = [{"sheets": [one._asdict() for one in each], "body": BODY} for each in pages]
+            found = browser_answers(WON, {"names": list(INITIAL), "cases": cases})
+            every = [each != initial for page in found or [] for each in page]
+            self.assertGreaterEqual(sum(every), len(every) // 4)
+            return found
+
+        def question(page: List[Imported], due: Any) -> List[Optional[str]]:
             text = "".join(each.element() for each in page) + BODY
             tree = Tree.from_html(text)
-            styles = StyleSheet.of_page(tree).styles(tree)
-            mine = [
-                [
-                    {each.name: each.value for each in won}.get(name, value)
-                    for name, value in INITIAL.items()
-                ]
-                for element, won in zip(tree, styles)
-                if element.name == "p"
-            ]
-            total += len(mine)
-            if mine != answer:
-                failures.append(f"{text}: {mine}, in the browser {answer}")
-        self.assertGreater(
-            sum(each != list(INITIAL.values()) for one in found for each in one), total // 4
-        )
-        self.sweep(total, failures)
+            found = []
+            for element, won in zip(tree, StyleSheet.of_page(tree).styles(tree)):
+                # One that is rolled back to nothing stands as it is.
+                mine = {each.name: each.value for each in won if each.value != "revert-layer"}
+                if element.name == "p":
+                    found.append([mine.get(name, value) for name, value in INITIAL.items()])
+            return rows(text, found, due)
+
+        self.against(browser, pages, question)

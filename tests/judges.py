@@ -61,6 +61,15 @@ OUTSIDE = tuple(
     )
 )
 
+# Values without quotes that are no names.
+UNQUOTED = (
+    "[test=]",
+    "a[href*=#]",
+    "p a[href*=#]",
+    "p a[href^=#]",
+    "#qunit-fixture option[value=1]",
+    "#qunit-fixture li[tabIndex=-1]",
+)
 # The texts whose expectations do not hold, and why: what the standards say, or docs/DIFFERENCES.md.
 DIFFERENCES: Tuple[Tuple[str, Dict[str, Sequence[str]]], ...] = (
     (
@@ -73,22 +82,8 @@ DIFFERENCES: Tuple[Tuple[str, Dict[str, Sequence[str]]], ...] = (
     (
         "the value of an attribute is a name or a string (Selectors 3, section 6.3)",
         {
-            "css-select": (
-                "[test=]",
-                "a[href*=#]",
-                "p a[href*=#]",
-                "p a[href^=#]",
-                "#qunit-fixture option[value=1]",
-                "#qunit-fixture li[tabIndex=-1]",
-            ),
-            "css-what": (
-                "[test=]",
-                "a[href*=#]",
-                "p a[href*=#]",
-                "p a[href^=#]",
-                "#qunit-fixture option[value=1]",
-                "#qunit-fixture li[tabIndex=-1]",
-            ),
+            "css-select": UNQUOTED,
+            "css-what": UNQUOTED,
             "nokogiri": ("img[width=200]",),
         },
     ),

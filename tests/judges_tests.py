@@ -450,7 +450,7 @@ class Node:
         self.contents = [each if isinstance(each, str) else Node(*each) for each in contents]
 
 
-class Doctype:
+class Doctype(str):
     """What makes a page one that compares classes with case."""
 
 

@@ -1,7 +1,7 @@
 """The C library and the Python package: what is installed into a folder, the C example by the
-toolchain's clang, each request for memory of each call refused, AddressSanitizer, the package's own
-tests, its types, and what it finds beside soupsieve. The calls themselves are those of
-tests/library_calls.py.
+toolchain's clang, each request for memory of each call refused, AddressSanitizer, lists that are kept
+under valgrind, the package's own tests, its types, and what it finds beside soupsieve. The calls
+themselves are those of tests/library_calls.py.
 
 The library is built by `./build library`. What is tested of it in C is left out where it is not the
 one that is built.
@@ -24,6 +24,8 @@ from tests.common import (
     Answer,
     Case,
     answer,
+    check_kept,
+    check_objects,
     has_modules,
     kit,
     library_path,
@@ -34,7 +36,7 @@ from tests.common import (
 
 EXPECTED = "1:\n2: 1 2\n3:\n"
 # How many calls tests/library_refused.c makes, and which of them allocate nothing.
-CALLS = 47
+CALLS = 54
 WITHOUT_MEMORY = (10, 19, 37)
 NO_HEADERS = "the C example was not compiled: the system has no C headers or start files"
 
@@ -67,7 +69,8 @@ class Installed(Case):
 
     def test_files(self) -> None:
         libraries = ("lib/libsimplecss.so.1", "lib/libsimplecss.so", "lib/libsimplecss.a")
-        for name in (*libraries, "include/simplecss.h", "lib/pkgconfig/simplecss.pc"):
+        headers = ("include/simplecss.h", "include/simplecss.hpp")
+        for name in (*libraries, *headers, "lib/pkgconfig/simplecss.pc"):
             with self.subTest(file=name):
                 self.assertTrue(os.path.isfile(os.path.join(prefix(), name)))
 
@@ -145,7 +148,7 @@ class InC(Case):
         statuses."""
         statuses: List[str] = []
         failures = []
-        while statuses[-3:] != ["0", "0", "0"] and len(statuses) < 400:
+        while statuses[-3:] != ["0", "0", "0"] and len(statuses) < 2_000:
             got = run_refused([program, str(number)], len(statuses) + 1, marked=True)
             out = got.out.decode()
             if got.status or out not in (whole.out, "3\n"):
@@ -153,6 +156,16 @@ class InC(Case):
             statuses.append(out[:1])
         self.sweep(len(statuses), failures)
         return statuses
+
+    def test_kept_lists(self) -> None:
+        check_kept(self, self.clang, os.path.join(self.lib, "libsimplecss.a"), "kept_lists.c")
+
+    def test_kept_pages(self) -> None:
+        check_kept(self, self.clang, os.path.join(self.lib, "libsimplecss.a"), "kept_pages.c")
+
+    def test_objects(self) -> None:
+        """The objects of simplecss.hpp, by the compilers of the system."""
+        check_objects(self, os.path.join(prefix(), "include"), self.lib)
 
     def test_sanitized(self) -> None:
         """The calls with AddressSanitizer, if the toolchain's archive of it links."""

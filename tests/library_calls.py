@@ -4,11 +4,12 @@ library is built by `./build library`.
 """
 from __future__ import annotations
 
+import contextlib
 import ctypes
 import itertools
 import resource
 import threading
-from typing import Any, Callable, List, Sequence, Tuple
+from typing import Any, Callable, Dict, Iterator, List, Sequence, Tuple
 
 from tests.common import Case, library_path, version
 
@@ -22,6 +23,7 @@ Tree = Tuple["Elements", bytes, Sizes]
 Outcome = Tuple[int, bytes, int, Tuple[int, int]]
 
 DONE, REFUSED, TREE_FAULT, LIMIT, NOT_UTF8, TOO_SMALL, TOO_MANY_LAYERS = 0, 1, 2, 4, 5, 6, 7
+NO_OBJECT = 8
 NO_LIMIT = 2**64 - 1
 SIZE = ctypes.c_size_t
 MARK = 0xA5
@@ -33,30 +35,46 @@ class TreeFault(ctypes.Structure):
     _fields_ = [("fault", ctypes.c_uint32), ("element", SIZE)]
 
 
+def texts_fields(name: str, ends: str) -> List[Tuple[str, Any]]:
+    """The fields of texts with their length, and of where each ends with how many there are."""
+    return [(name, ctypes.c_char_p), (f"{name}_len", SIZE), *numbers_fields(ends)]
+
+
+def numbers_fields(*names: str) -> List[Tuple[str, Any]]:
+    """The fields of numbers, and of how many there are."""
+    pairs = (((name, ctypes.POINTER(SIZE)), (f"{name}_count", SIZE)) for name in names)
+    return list(itertools.chain.from_iterable(pairs))
+
+
 class TreeArrays(ctypes.Structure):
     """A tree: its elements, its strings, where each ends, and its attributes in namespaces, each with its
     length; how many states it names; and the numbers of the namespaces of its prefixes."""
 
     _fields_ = [
-        ("elements", ctypes.POINTER(SIZE)),
-        ("elements_count", SIZE),
-        ("strings", ctypes.c_char_p),
-        ("strings_len", SIZE),
-        ("string_ends", ctypes.POINTER(SIZE)),
-        ("string_ends_count", SIZE),
-        ("attributes", ctypes.POINTER(SIZE)),
-        ("attributes_count", SIZE),
+        *numbers_fields("elements"),
+        *texts_fields("strings", "string_ends"),
+        *numbers_fields("attributes"),
         ("states_count", SIZE),
-        ("prefixes", ctypes.POINTER(SIZE)),
-        ("prefixes_count", SIZE),
+        *numbers_fields("prefixes"),
     ]
 
 
-class Device(ctypes.Structure):
-    """A device: its width, height, resolution, type and pointer, and whether it can hover, is dark and
-    has less motion."""
+class KeptList(ctypes.Structure):
+    """The handle of a list of selectors that the library keeps."""
 
-    _fields_ = [(f"number_{each}", ctypes.c_uint32) for each in range(8)]
+    _fields_ = [("at", ctypes.c_void_p)]
+
+
+class KeptPage(ctypes.Structure):
+    """The handle of a page that the library keeps."""
+
+    _fields_ = [("at", ctypes.c_void_p)]
+
+
+class Device(ctypes.Structure):
+    """A device: the numbers of `simplecss_device`, in their order."""
+
+    _fields_ = [(f"number_{each}", ctypes.c_uint32) for each in range(25)]
 
 
 class SheetArrays(ctypes.Structure):
@@ -65,48 +83,35 @@ class SheetArrays(ctypes.Structure):
     origins; and those of the group rules that each is in, with how many these are."""
 
     _fields_ = [
-        ("texts", ctypes.c_char_p),
-        ("texts_len", SIZE),
-        ("ends", ctypes.POINTER(SIZE)),
-        ("ends_count", SIZE),
-        ("origins", ctypes.POINTER(SIZE)),
-        ("origins_count", SIZE),
-        ("groups", ctypes.c_char_p),
-        ("groups_len", SIZE),
-        ("group_ends", ctypes.POINTER(SIZE)),
-        ("group_ends_count", SIZE),
-        ("around", ctypes.POINTER(SIZE)),
-        ("around_count", SIZE),
-        ("depths", ctypes.POINTER(SIZE)),
-        ("depths_count", SIZE),
-        ("namespaces", ctypes.c_char_p),
-        ("namespaces_len", SIZE),
-        ("namespace_ends", ctypes.POINTER(SIZE)),
-        ("namespace_ends_count", SIZE),
+        *texts_fields("texts", "ends"),
+        *numbers_fields("origins"),
+        *texts_fields("groups", "group_ends"),
+        *numbers_fields("around", "depths"),
+        *texts_fields("namespaces", "namespace_ends"),
     ]
 
 
 class OwnArrays(ctypes.Structure):
     """Two texts for each element, of its style attribute and of its presentation declarations."""
 
-    _fields_ = [
-        ("texts", ctypes.c_char_p),
-        ("texts_len", SIZE),
-        ("ends", ctypes.POINTER(SIZE)),
-        ("ends_count", SIZE),
-    ]
+    _fields_ = texts_fields("texts", "ends")
 
 
 class AskedArrays(ctypes.Structure):
     """The names of properties, and how many each has."""
 
+    _fields_ = [*texts_fields("names", "ends"), *numbers_fields("counts")]
+
+
+class PolicyArrays(ctypes.Structure):
+    """A scope and the names of a policy, as texts with their length, and where each ends with how many there
+    are; how many names there are of each kind but the last one; whether declarations may be important, and rules
+    for the scope itself; and the most bytes of a text."""
+
     _fields_ = [
-        ("names", ctypes.c_char_p),
-        ("names_len", SIZE),
-        ("ends", ctypes.POINTER(SIZE)),
-        ("ends_count", SIZE),
-        ("counts", ctypes.POINTER(SIZE)),
-        ("counts_count", SIZE),
+        *texts_fields("texts", "ends"),
+        *((name, SIZE) for name in ("properties", "functions", "strings", "pseudos")),
+        *((name, SIZE) for name in ("important", "itself", "longest")),
     ]
 
 
@@ -210,6 +215,45 @@ def asked_of(*properties: Sequence[bytes]) -> AskedArrays:
     return AskedArrays(*fields_of(names), *counted(sizes(list(map(len, properties)))))
 
 
+# What a call takes by a pointer.
+STRUCTURES = (Device, KeptList, KeptPage, SheetArrays, OwnArrays, AskedArrays, PolicyArrays)
+
+
+def policy_of(
+    scope: bytes,
+    *lists: Sequence[bytes],
+    important: int = 1,
+    itself: int = 0,
+    longest: int = 1 << 20,
+) -> PolicyArrays:
+    """The structure of a policy, of five lists of names."""
+    names = buffer_of([scope, *itertools.chain.from_iterable(lists)])
+    numbers = important, itself, longest
+    return PolicyArrays(*fields_of(names), *map(len, lists[:4]), *numbers)
+
+
+# What a policy of the library has of names, in the order of its arrays.
+LISTS = ("properties", "functions", "strings", "pseudos", "media")
+# The numbers of its policies.
+POLICIES = {"mail": 4, "comment": 5}
+
+
+def lines_of(library: ctypes.CDLL, policy: str) -> Dict[str, List[bytes]]:
+    """The lines that the library writes of one of its policies, by their first words."""
+    nothing = policy_of(b"", (), (), (), (), ())
+    arguments = b"", nothing, POLICIES[policy]
+    status, out, length, _ = call(library, "simplecss_clean", arguments, 1 << 13)
+    assert status == DONE, status
+    rows = (line.split(b" ") for line in out[:length].splitlines())
+    return {head.decode(): rest for head, *rest in rows}
+
+
+def listed_policy(library: ctypes.CDLL, scope: bytes, policy: str) -> PolicyArrays:
+    """A policy of the library, for a scope."""
+    lines = lines_of(library, policy)
+    return policy_of(scope, *(lines[each] for each in LISTS))
+
+
 def words_of(arguments: Sequence[Any]) -> List[Any]:
     """Each argument as a pointer and a length, a structure and a tree as a pointer, and a number as a
     size."""
@@ -218,7 +262,7 @@ def words_of(arguments: Sequence[Any]) -> List[Any]:
         if isinstance(argument, int):
             words.append(SIZE(argument))
             continue
-        if isinstance(argument, (Device, SheetArrays, OwnArrays, AskedArrays)):
+        if isinstance(argument, STRUCTURES):
             words.append(ctypes.byref(argument))
             continue
         if isinstance(argument, tuple):
@@ -229,19 +273,60 @@ def words_of(arguments: Sequence[Any]) -> List[Any]:
     return words
 
 
+@contextlib.contextmanager
+def given(
+    library: ctypes.CDLL, name: str, arguments: Sequence[Any], fault: TreeFault
+) -> Iterator[Tuple[int, List[Any]]]:
+    """The status of what a call needs first, and what it is given. A question to a list is given the
+    handle of one that is made of the arguments, and let go after it, and one to a page that of one that is made
+    of the first two; of others nothing is needed.
+    """
+    if name.startswith("simplecss_page_"):
+        page = KeptPage()
+        place = ctypes.byref(page)
+        made = library.simplecss_page_new(*words_of(arguments[:2]), place, ctypes.byref(fault))
+        yield made, words_of((page, *arguments[2:]))
+        library.simplecss_page_free(place)
+        return
+    if not name.startswith("simplecss_list_"):
+        yield DONE, words_of(arguments)
+        return
+    kept = KeptList()
+    made = library.simplecss_list_new(*words_of(arguments), ctypes.byref(kept))
+    yield made, words_of((kept,))
+    library.simplecss_list_free(ctypes.byref(kept))
+
+
 def call(
     library: ctypes.CDLL, name: str, arguments: Sequence[Any], room: int, most: int = NO_LIMIT
 ) -> Outcome:
     """The status, the buffer, the length, and the fault of a call with a buffer of `room` bytes.
     Its answer has at most `most` bytes, if the call has such a limit."""
     out = (ctypes.c_uint8 * (room + 4))(*([MARK] * (room + 4)))
+    status, length, fault = filled(library, name, arguments, out, most)
+    return status, bytes(out), length, (fault.fault, fault.element)
+
+
+def filled(
+    library: ctypes.CDLL, name: str, arguments: Sequence[Any], out: Any, most: int
+) -> Tuple[int, int, TreeFault]:
+    """The status, the length, and the fault of a call that writes into a buffer, whose last four items it is
+    not told of."""
     length, fault = SIZE(77), TreeFault(88, 99)
     limit = (SIZE(most),) if name in LIMITED else ()
     tail = (ctypes.byref(fault),) if name in WITH_TREE else ()
-    status = getattr(library, name)(
-        *words_of(arguments), *limit, out, SIZE(room), ctypes.byref(length), *tail
-    )
-    return status, bytes(out), length.value, (fault.fault, fault.element)
+    with given(library, name, arguments, fault) as (made, words):
+        status = getattr(library, name)(
+            *words, *limit, out, SIZE(len(out) - 4), ctypes.byref(length), *tail
+        )
+    return answered_status(made, status), length.value, fault
+
+
+def answered_status(made: int, status: int) -> int:
+    """The status of a call: of a question to no object that of why there is none."""
+    if made == DONE:
+        return status
+    return made if status == NO_OBJECT else status
 
 
 SHEET = (*buffer_of((b"ul > li { color: red }", b".new { color: blue !important }")), 2)
@@ -323,17 +408,19 @@ SELECTORS3 = buffer_of(
     )
 )
 # Lists of media queries, and what they say on two devices.
-SCREEN = Device(1280, 800, 2000, 0, 2, 1, 1, 0)
-PAPER = Device(794, 1123, 1000, 1, 0, 0, 0, 1)
+SCREEN = Device(
+    *(1280, 800, 2000, 0, 2, 1, 1, 0, 1920, 1080, 8, 0, 0),
+    *(1, 1, 0, 2, 2, 2, 1, 1, 1, 1, 1, 1),
+)
+PAPER = Device(
+    *(794, 1123, 1000, 1, 0, 0, 0, 1, 0, 0, 0, 0, 1),
+    *(2, 0, 1, 0, 0, 0, 0, 3, 0, 0, 0, 0),
+)
 MEDIA = (
     (b"", b"true", b"true"),
     (b"print", b"false", b"true"),
     (b"(foo)", b"unknown", b"unknown"),
-    (b"(width >= 80em) and (hover)", b"true", b"false"),
-    (b"(width: 210mm), (1dppx < resolution)", b"true", b"false"),
-    (b"(orientation: portrait) or (prefers-color-scheme: dark)", b"true", b"true"),
-    (b"(pointer: fine)", b"true", b"false"),
-    (b"(prefers-reduced-motion)", b"false", b"true"),
+    (b"(width: calc(1e3px + 2 * (1dppx / 1dppx) * 140px))", b"true", b"false"),
 )
 # Conditions of `@supports`, and the names of properties.
 NAMES = buffer_of((b"color", b"display"))
@@ -351,14 +438,7 @@ _REGISTERED = (
     *(b"--a", b"3", b"--b", b"4"),
 )
 REGISTERED = buffer_of(_REGISTERED)
-SUPPORTS = (
-    (b"(DISPLAY: grid)", b"true"),
-    (b"(width: 1px)", b"false"),
-    (b"(--x:) and selector(a > b)", b"true"),
-    (b"not selector(a, b)", b"true"),
-    (b"selector(:not(\xc3\xa9))", b"true"),
-    (b"display: grid", b"false"),
-)
+SUPPORTS = ((b"(DISPLAY: grid)", b"true"), (b"(width: 1px)", b"false"))
 # The calls on trees, and those with a limit on the answer.
 WITH_TREE = (
     "simplecss_port_match",
@@ -371,7 +451,13 @@ WITH_TREE = (
     "simplecss_matches",
     "simplecss_refusal",
 )
-LIMITED = (*WITH_TREE[:-1], "simplecss_read", "simplecss_rule_texts", "simplecss_values")
+LIMITED = (
+    *WITH_TREE[:-1],
+    "simplecss_page_select",
+    "simplecss_read",
+    "simplecss_rule_texts",
+    "simplecss_values",
+)
 RED, BLUE = b"5 3 0\ncolorred\n", b"5 4 1\ncolorblue\n"
 MODERN_SHEET = b"@media x { a, b:not(c), d::before { e: f; g } } h , { } @i;"
 # The numbers of its three statements: a rule in a group rule, with three selectors and two items; a rule
@@ -484,6 +570,15 @@ CONTENTS = (
     (b"@font-face{a:b}", ()),
 )
 # Sheets, a layout of each, and the printed texts.
+LINTED = (
+    (b"a{}", 0, b"empty rule\t0\t3\t\n"),
+    (b"a{colr:b}", 0, b"unknown property\t2\t6\tcolor\t2\t6\tcolor\n"),
+    (b"a{*zoom:1}", 1, b"unsupported hack\t2\t9\t\n"),
+    (b"a{*zoom:1}", 0, b""),
+    (b"tpo:0", 2, b"unknown property\t0\t3\ttop\t0\t3\ttop\n"),
+    (b"a{top:0 left:0}", 0, b"semicolon missing\t2\t7\t\t7\t7\t;\n"),
+    (b"color:red\nwidth:1px 2px\n\ntop:x()", 8, b"valid\ninvalid\nunknown\nunknown\n"),
+)
 PRINTED = (
     (b"/**/ @media ( a : b ) { a > b , c { d : e ; } }", 0, b"@media(a :b){a>b,c{d:e}}"),
     (b"a{b:c!important;--d:  e  f", 1, b"a {\n  b: c !important;\n  --d: e  f;\n}\n"),
@@ -491,11 +586,85 @@ PRINTED = (
     (b"a { b : c\\", 0, b"a { b : c\\"),
     (b" ", 1, b""),
 )
+# The policy of tests/release/compare.c.
+COMPARED = policy_of(
+    b".x", (b"color", b"x"), (b"rgb",), (b"color",), (b"hover",), (b"print",), longest=NO_LIMIT
+)
+# A policy, what is asked of a text, and the answer.
+POLICY = policy_of(b".m", (b"color", b"font"), (b"rgb",), (b"font",), (b"hover",), (b"print",))
+ITSELF = policy_of(b".m", (b"color",), (), (), (), (), itself=1)
+NO_IMPORTANT = policy_of(b".m", (b"color",), (), (), (), (), important=0, longest=30)
+CLEANED = (
+    (POLICY, 0, b"p,a:hover{COLOR:rgb(0 0 0)}", b".m p, .m a:hover {COLOR: rgb(0 0 0);}\n"),
+    (POLICY, 0, b"@media print{p{color:a;x:y}}", b"@media print {\n.m p {color: a;}\n}\n"),
+    (POLICY, 0, b"p,~a{color:a}@import 'a';a:active{color:a}", b""),
+    (POLICY, 0, b"BODY>p,:root html a{color:a}", b".m > p, .m a {color: a;}\n"),
+    (
+        POLICY,
+        0,
+        b"body{color:a}body>{color:a}body+p{color:a}body.a p{color:a}",
+        b".m body.a p {color: a;}\n",
+    ),
+    (ITSELF, 0, b"body,:host{color:a}body>{color:a}", b".m, .m {color: a;}\n"),
+    (ITSELF, 2, b".m,.m > p{color:a}", b"true"),
+    (POLICY, 2, b".m{color:a}", b"false"),
+    (POLICY, 2, b".m > p{color:a}", b"true"),
+    (POLICY, 2, b".m ~ p{color:a}", b"false"),
+    (POLICY, 2, b".m  > p{color:a}", b"false"),
+    (POLICY, 2, b".m > > p{color:a}", b"false"),
+    (
+        POLICY,
+        1,
+        b"color:a;color:url(b);font:'c'!important;--a:b",
+        b"color: a; font: 'c'!important;",
+    ),
+    (NO_IMPORTANT, 1, b"color:a;color:b!important", b"color: a;"),
+    (NO_IMPORTANT, 1, b"color:" + b"a" * 25, b""),
+    (POLICY, 2, b".m p{color:a}", b"true"),
+    (POLICY, 2, b"p{color:a}", b"false"),
+    (POLICY, 2, b".m p{color:a", b"false"),
+    (POLICY, 3, b"color:a; font : 'b'", b"true"),
+    (POLICY, 3, b"color:'a'", b"false"),
+    (POLICY, 3, b"color:a/**/", b"false"),
+    (POLICY, 3, b"color:a;<", b"false"),
+)
+# The same of what is dropped: where it begins and ends, and the number of the reason.
+DROPPED = (
+    (
+        POLICY,
+        1,
+        b"x:y;color:f();color:url(a);color:'a'",
+        ((0, 3, 0), (4, 13, 1), (14, 26, 2), (27, 36, 3)),
+    ),
+    (
+        POLICY,
+        1,
+        b"color:a/**/b;color:<;@a;b;color:(",
+        ((0, 12, 4), (13, 20, 5), (21, 24, 9), (24, 25, 10), (26, 33, 7)),
+    ),
+    (NO_IMPORTANT, 1, b"color:b!important", ((0, 17, 6),)),
+    (NO_IMPORTANT, 0, b"a" * 31, ((0, 31, 12),)),
+    (POLICY, 0, b"&{color:a}p{x:y}", ((0, 10, 8), (12, 15, 0), (10, 16, 11))),
+)
+# Pages and labels that come with them, and the encodings that they are in.
+ENCODED = (
+    (b"\xef\xbb\xbf<meta charset=koi8-r>", b"latin1", b"mark\tUTF-8"),
+    (b"\xff\xfe<\0", b"", b"mark\tUTF-16LE"),
+    (b"<meta charset=koi8-r>", b" Latin1\n", b"label\twindows-1252"),
+    (b"<meta charset=' KOI '>\xff", b"koi 8", b"meta\tKOI8-R"),
+    (b"<meta charset=utf-16>", b"\xff", b"meta\tUTF-8"),
+    (b"<?xml encoding='sjis'?><!--><p>", b"", b"declaration\tShift_JIS"),
+    (b"\0<\0?\0x", b"", b"declaration\tUTF-16BE"),
+    (b"<!-- <meta charset=koi8-r>", b"", b"default\twindows-1252"),
+    (b"", b"", b"default\twindows-1252"),
+)
 ANSWERS: Sequence[Tuple[str, Tuple[Any, ...], bytes]] = (
+    *(("simplecss_html_encoding", (page, label), line) for page, label, line in ENCODED),
+    *(("simplecss_clean", (text, policy, asked), kept) for policy, asked, text, kept in CLEANED),
     ("simplecss_version", (), version().encode()),
     ("simplecss_port_selector", (b"ul>li.a , b",), b"ul > li[class~='a']\t0,1,2\n"),
     (
-        "simplecss_printed",
+        "simplecss_list_text",
         (b"a, #b", PORT),
         b"a*[id='b']",
     ),
@@ -535,6 +704,7 @@ ANSWERS: Sequence[Tuple[str, Tuple[Any, ...], bytes]] = (
     ),
     *(("simplecss_imports", (text,), answer) for text, answer in IMPORTS),
     *(("simplecss_print", (text, layout), printed) for text, layout, printed in PRINTED),
+    *(("simplecss_lint", (text, asked), lines) for text, asked, lines in LINTED),
     *(("simplecss_close", (value,), closed) for value, closed in CLOSED),
     ("simplecss_escape", (b"-1\0 a",), b"-\\31 \xef\xbf\xbd\\ a"),
     ("simplecss_escape", (b"",), b""),
@@ -563,11 +733,11 @@ ANSWERS: Sequence[Tuple[str, Tuple[Any, ...], bytes]] = (
     ("simplecss_select", (b":active", PORT, STATES), b"4\n5\n"),
     ("simplecss_select", (b":focus", PORT, STATES), b"5\n"),
     (
-        "simplecss_printed",
+        "simplecss_list_text",
         (b" a > b, c:/**/BEFORE,d:not(.e, #f) ", MODERN),
         b"a > bc::BEFOREd:not(.e, #f)",
     ),
-    ("simplecss_printed", ("é/*,*/,[b=',']".encode(), HTML), 'é[b=","]'.encode()),
+    ("simplecss_list_text", ("é/*,*/,[b=',']".encode(), HTML), 'é[b=","]'.encode()),
     ("simplecss_refusal", (b"a, b:nth-child(2n+1) ~ c", MODERN, PAGE), b""),
     (
         "simplecss_refusal",
@@ -654,6 +824,8 @@ ANSWERS: Sequence[Tuple[str, Tuple[Any, ...], bytes]] = (
     ("simplecss_longhands", (b"margin",), b"margin-top margin-right margin-bottom margin-left"),
     ("simplecss_shorthands", (b"margin-top",), b"all\nmargin\n"),
     ("simplecss_shorthands", (b"margin",), b""),
+    ("simplecss_counterpart", (b"margin-top",), b"margin-block-start"),
+    ("simplecss_counterpart", (b"margin-block-start",), b"margin-top"),
     ("simplecss_inherited", (b"color",), b"true"),
     ("simplecss_inherited", (b"--color",), b"true"),
     ("simplecss_inherited", (b"margin",), b"false"),
@@ -692,7 +864,7 @@ _GRAMMARS = (MODERN, HTML, QUIRKS, PORT)
 for _text, _status in ((b"", REFUSED), (b"a:none(b)", REFUSED), (BROKEN, NOT_UTF8)):
     FAILURES += [
         (f"simplecss_{name}", (_text, each), _status)
-        for name, each in itertools.product(("list", "printed"), _GRAMMARS)
+        for name, each in itertools.product(("list_numbers", "list_text"), _GRAMMARS)
     ]
     FAILURES += [("simplecss_port_selector", (_text,), _status)]
 FAILURES += [("simplecss_refusal", (BROKEN, each, PAGE), NOT_UTF8) for each in _GRAMMARS]
@@ -705,7 +877,7 @@ FAILURES += [
 ]
 FAILURES += [("simplecss_decode", (BROKEN, each), NOT_UTF8) for each in (0, 1)]
 # What is no grammar is refused before anything else.
-FAILURES += [(f"simplecss_{name}", (BROKEN, 4), REFUSED) for name in ("list", "printed")]
+FAILURES += [(f"simplecss_{name}", (BROKEN, 4), REFUSED) for name in ("list_numbers", "list_text")]
 FAILURES += [("simplecss_refusal", (BROKEN, 4, PAGE), REFUSED)]
 FAILURES += [("simplecss_print", (b"a{}", 2), REFUSED), ("simplecss_print", (BROKEN, 0), NOT_UTF8)]
 FAILURES += [("simplecss_close", (value,), REFUSED) for value in UNCLOSED]
@@ -714,8 +886,14 @@ FAILURES += [
 ]
 FAILURES += [
     ("simplecss_media", (BROKEN, SCREEN), NOT_UTF8),
-    ("simplecss_media", (b"all", Device(1, 1, 1, 3, 0, 0, 0, 0)), REFUSED),
-    ("simplecss_media", (b"all", Device(1, 1, 1, 0, 3, 0, 0, 0)), REFUSED),
+    *(
+        (
+            "simplecss_media",
+            (b"all", Device(*(most + 1 if each == at else 0 for each in range(25)))),
+            REFUSED,
+        )
+        for at, most in ((3, 2), (4, 2), (13, 2), (16, 2), (17, 2), (18, 6), (20, 3))
+    ),
     ("simplecss_supports", (BROKEN, *NAMES), NOT_UTF8),
     ("simplecss_supports", (b"(a:b)", b"ab", sizes([1])), REFUSED),
     ("simplecss_supports", (b"(a:b)", BROKEN, sizes([1])), NOT_UTF8),
@@ -723,6 +901,7 @@ FAILURES += [
     ("simplecss_values", (b"--a", sizes([3, 1]), 1, 1, 1), REFUSED),
     ("simplecss_values", (BROKEN, sizes([1]), 1, 1, 1), NOT_UTF8),
     ("simplecss_longhands", (b"color",), REFUSED),
+    ("simplecss_counterpart", (b"margin",), REFUSED),
 ]
 # Of two faults of texts the first is reported.
 for _sheet, _status in (
@@ -755,6 +934,28 @@ for _texts, _status in (
         ("simplecss_match_selectors", (*_texts, PORT, PAGE), _status),
         ("simplecss_match_selectors", (*_texts, HTML, PAGE), _status),
     ]
+# Ends that are not those of texts, fewer texts than are counted, a scope that is no compound, what is no number
+# of a question, and texts that are not UTF-8.
+BAD_POLICIES = (
+    (policy_of(b"a > b", (b"a",), (), (), (), ()), REFUSED),
+    (PolicyArrays(*fields_of((b"ab", sizes([1]))), 0, 0, 0, 0, 1, 0, 9), REFUSED),
+    (PolicyArrays(*fields_of((b".a", sizes([2]))), 1, 0, 0, 0, 1, 0, 9), REFUSED),
+    (PolicyArrays(*fields_of((b".ab", sizes([2, 3]))), 0, 0, 0, NO_LIMIT, 1, 0, 9), REFUSED),
+    (PolicyArrays(*fields_of((b"", sizes([]))), 0, 0, 0, 0, 1, 0, 9), REFUSED),
+    (policy_of(b".a", (BROKEN,), (), (), (), ()), NOT_UTF8),
+)
+for _policy, _status in BAD_POLICIES:
+    FAILURES += [
+        ("simplecss_clean", (b"p{}", _policy, 0), _status),
+        ("simplecss_clean", (b"p{}", _policy, 2), _status),
+        ("simplecss_dropped", (b"p{}", _policy, 0), _status),
+    ]
+FAILURES += [
+    *(("simplecss_clean", (BROKEN, POLICY, asked), NOT_UTF8) for asked in range(4)),
+    *(("simplecss_dropped", (BROKEN, POLICY, form), NOT_UTF8) for form in range(2)),
+    ("simplecss_clean", (BROKEN, POLICY, 6), REFUSED),
+    ("simplecss_dropped", (BROKEN, POLICY, 2), REFUSED),
+]
 FAILURES += [
     ("simplecss_names", (b"ab", sizes([1])), REFUSED),
     ("simplecss_names", buffer_of((b"a", BROKEN)), NOT_UTF8),
@@ -890,7 +1091,7 @@ NUMBERS: Sequence[Tuple[str, Tuple[Any, ...], Sequence[Sequence[int]]]] = (
         ),
     ),
     (
-        "simplecss_list",
+        "simplecss_list_numbers",
         (b"a, #b, .c > d", PORT),
         (
             (0, 0, 1, 0, 0, 1, 0, 0, 0, 1),
@@ -899,7 +1100,7 @@ NUMBERS: Sequence[Tuple[str, Tuple[Any, ...], Sequence[Sequence[int]]]] = (
         ),
     ),
     (
-        "simplecss_list",
+        "simplecss_list_numbers",
         (" é > b, c:/**/BEFORE,d:not(.e, #f) , a ::after".encode(), MODERN),
         (
             (1, 6, 1, 0, 0, 2, 7, 7, 0, 6),
@@ -908,15 +1109,30 @@ NUMBERS: Sequence[Tuple[str, Tuple[Any, ...], Sequence[Sequence[int]]]] = (
             (38, 9, 1, 0, 0, 2, 40, 42, 1, 9),
         ),
     ),
+    # `:scope` matches the element of a number, or the root, and no element that the tree names.
+    *(
+        ("simplecss_page_select", (SCOPED, MODERN, b":scope, :scope > *", *asked), (found,))
+        for asked, found in (
+            ((0, 0, NO_LIMIT), (1, 2, 4)),
+            ((0, 1, 3), (2,)),
+            ((2, 0, NO_LIMIT), (2, 3)),
+            ((4, 2, 4), (4,)),
+            ((4, 4, 4), ()),
+            ((4, 5, NO_LIMIT), ()),
+            ((6, 0, NO_LIMIT), ()),
+        )
+    ),
+    ("simplecss_page_select", (SPACED, HTML, b"n|b, s|a, :own", 0, 1, 9), ((2, 5),)),
+    ("simplecss_page_select", (TREE3, QUIRKS, b".NEW, LI:empty", 0, 0, 4), ((2, 3),)),
     (
         "simplecss_winners",
         (_RULES, HTML, NO_LIMIT, PAGE, NO_OWN),
-        ((0,), (4, 0, 1, 2, 0, 3, 0, 3, 1), (2, 0, 1, 2, 0)),
+        ((0,), (4, 0, 1, 3, 0, 3, 1, 2, 0), (2, 0, 1, 2, 0)),
     ),
     (
         "simplecss_winners",
         (_RULES, HTML, NO_LIMIT, PAGE, _OWN),
-        ((0,), (6, 0, 1, 2, 0, 3, 1, 5, 2, 4, 0, 4, 1), (2, 0, 1, 2, 0)),
+        ((0,), (6, 0, 1, 3, 1, 4, 0, 4, 1, 2, 0, 5, 2), (2, 0, 1, 2, 0)),
     ),
     (
         "simplecss_winners_named",
@@ -926,7 +1142,7 @@ NUMBERS: Sequence[Tuple[str, Tuple[Any, ...], Sequence[Sequence[int]]]] = (
     (
         "simplecss_winners",
         (_ORIGINS, MODERN, NO_LIMIT, PAGE, NO_OWN),
-        ((2, 0, 1, 2, 0),) * 3,
+        ((2, 2, 0, 0, 1),) * 3,
     ),
     ("simplecss_matches", (_RULES, HTML, NO_LIMIT, PAGE), ((0,), (3, 0, 2, 3), (2, 0, 2))),
     (
@@ -978,6 +1194,7 @@ NUMBERS: Sequence[Tuple[str, Tuple[Any, ...], Sequence[Sequence[int]]]] = (
     ),
     ("simplecss_read", (b" /* */ <!-- ",), ()),
     *(("simplecss_contents", (text,), numbers) for text, numbers in CONTENTS),
+    *(("simplecss_dropped", (text, policy, form), rows) for policy, form, text, rows in DROPPED),
     ("simplecss_declarations", (DECLARATIONS,), DECLARATION_NUMBERS),
     *(
         ("simplecss_declarations", (text,), ((kind, 0, len(text), *[0] * 7),))
@@ -1020,6 +1237,11 @@ FAILURES += [
     ("simplecss_refusal", (b"a", MODERN, _BROKEN_PAGE), NOT_UTF8),
     ("simplecss_refusal", (b"a", HTML, _BROKEN_PAGE), NOT_UTF8),
     ("simplecss_select", (b"a", 4, PAGE), REFUSED),
+    ("simplecss_page_select", (PAGE, 4, b"a", 0, 0, 1), REFUSED),
+    ("simplecss_page_select", (PAGE, PORT, b"a", 0, 0, 1), REFUSED),
+    ("simplecss_page_select", (PAGE, MODERN, b"a,", 0, 0, 1), REFUSED),
+    ("simplecss_page_select", (PAGE, MODERN, BROKEN, 0, 0, 1), NOT_UTF8),
+    ("simplecss_page_select", (_BROKEN_PAGE, HTML, b"a", 0, 0, 1), NOT_UTF8),
     ("simplecss_select", (BROKEN, 4, _BROKEN_PAGE), REFUSED),
     ("simplecss_select", (b"a,", MODERN, PAGE), REFUSED),
     ("simplecss_select", (BROKEN, MODERN, PAGE), NOT_UTF8),
@@ -1040,13 +1262,9 @@ def numbers_call(
 ) -> Tuple[int, int, List[int]]:
     """Calls a function that writes numbers, at most so many. Returns its status, how many numbers the
     answer has, and a buffer with room for so many and four more."""
-    out, length, fault = sizes([MARK] * (room + 4)), SIZE(77), TreeFault(88, 99)
-    limit = (SIZE(most),) if name in LIMITED else ()
-    tail = (ctypes.byref(fault),) if name in WITH_TREE else ()
-    status = getattr(library, name)(
-        *words_of(arguments), *limit, out, SIZE(room), ctypes.byref(length), *tail
-    )
-    return status, length.value, list(out)
+    out = sizes([MARK] * (room + 4))
+    status, length, _ = filled(library, name, arguments, out, most)
+    return status, length, list(out)
 
 
 class Calls(Case):
@@ -1102,6 +1320,7 @@ class Calls(Case):
                 ("simplecss_match_selectors", (b"a", sizes([1]), HTML, page)),
                 ("simplecss_select", (b"a", HTML, page)),
                 ("simplecss_refusal", (b"a", HTML, page)),
+                ("simplecss_page_select", (page, HTML, b"a", 0, 0, 1)),
                 ("simplecss_winners", (_RULES, HTML, NO_LIMIT, page, NO_OWN)),
             ):
                 self.fails(name, arguments, TREE_FAULT, (fault, element))
@@ -1220,8 +1439,155 @@ class Limits(Case):
                 self.assertEqual(found[0], status)
 
 
+MANY = 300_000
+# A page of many elements without attributes, and one of a single element.
+_MANY_ELEMENTS = Elements([0, 0, 0] * MANY), b"p" * MANY, sizes(list(range(1, MANY + 1)))
+_ONE_ELEMENT = tree_of((0, b"p"))
+
+
+def many_texts(text: bytes, number: int = MANY) -> Buffer:
+    """A text so many times, and where each ends."""
+    return text * number, sizes(list(range(len(text), (number + 1) * len(text), len(text))))
+
+
+def digits(number: int) -> int:
+    """How many digits the numbers from 1 to this one have together."""
+    return sum(len(str(n)) for n in range(1, number + 1))
+
+
+def large_sheets() -> Iterator[Tuple[str, Tuple[Any, ...], int]]:
+    """Questions on sheets with many rules, many sheets, a rule with many declarations, and a page with many
+    elements."""
+    none, asked = buffer_of(()), asked_of((b"a",))
+    for texts in (many_texts(b"p{a:b}" * MANY, 1), many_texts(b"p{a:b}")):
+        sheets = (sheets_of(texts, none), HTML, NO_LIMIT)
+        yield "simplecss_rules", (sheets[0], NO_LIMIT), (9 + 6) * MANY
+        yield "simplecss_rule_texts", (sheets[0], NO_LIMIT), MANY
+        yield "simplecss_winners", (*sheets, _ONE_ELEMENT, NO_OWN), 3
+        yield "simplecss_winners_named", (*sheets, _ONE_ELEMENT, NO_OWN, asked), 2
+        yield "simplecss_matches", (*sheets, _ONE_ELEMENT), 1 + MANY
+    sheets = (sheets_of(many_texts(b"p{" + b"a:b;" * MANY + b"}", 1), none), HTML, NO_LIMIT)
+    yield "simplecss_rules", (sheets[0], NO_LIMIT), 9 + 6 * MANY
+    yield "simplecss_winners", (*sheets, _ONE_ELEMENT, NO_OWN), 3
+    sheets = (sheets_of(many_texts(b"p{a:b}", 1), none), HTML, NO_LIMIT)
+    yield "simplecss_winners", (*sheets, _MANY_ELEMENTS, NO_OWN), 3 * MANY
+    yield "simplecss_winners_named", (*sheets, _MANY_ELEMENTS, NO_OWN, asked), 2 * MANY
+    yield "simplecss_matches", (*sheets, _MANY_ELEMENTS), 2 * MANY
+
+
+def large_questions() -> Iterator[Tuple[str, Tuple[Any, ...], int]]:
+    """Calls of large inputs, and how long the answer of each is, in bytes or in numbers: at least one for
+    each call that may be out of memory, and for each kind of thing of which its input may have many.
+    """
+    listed = b"p," * (MANY - 1) + b"p"
+    yield "simplecss_list_numbers", (listed, MODERN), 10 * MANY
+    yield "simplecss_list_text", (listed, MODERN), MANY
+    yield "simplecss_refusal", (listed, MODERN, PAGE), 0
+    yield "simplecss_names", many_texts(b".a"), 6 * MANY
+    yield "simplecss_match_selectors", (*many_texts(b"p"), MODERN, _ONE_ELEMENT), 3 + digits(
+        MANY
+    ) + MANY
+    one = (*many_texts(b"p", 1), MODERN, _MANY_ELEMENTS)
+    yield "simplecss_match_selectors", one, digits(MANY) + 4 * MANY
+    yield "simplecss_select", (b"p", MODERN, _MANY_ELEMENTS), digits(MANY) + MANY
+    yield "simplecss_select", (listed, MODERN, _ONE_ELEMENT), 2
+    yield "simplecss_select", (b":has(a)", MODERN, _MANY_ELEMENTS), 0
+    yield "simplecss_page_select", (_MANY_ELEMENTS, MODERN, b"p", 0, 0, NO_LIMIT), MANY
+    yield "simplecss_page_select", (_ONE_ELEMENT, MODERN, listed, 0, 0, 1), 1
+    yield "simplecss_page_select", (_MANY_ELEMENTS, MODERN, b":has(a)", 0, 0, 1), 0
+    rules, many_declarations = b"p{a:b}" * MANY, b"p{" + b"a:b;" * MANY + b"}"
+    yield "simplecss_read", (rules,), (13 + 9 + 10) * MANY
+    yield "simplecss_read", (many_declarations,), 13 + 9 + 10 * MANY
+    yield "simplecss_declarations", (b"a:b;" * MANY,), 10 * MANY
+    imports = sum(len(f"{12 * n} 12 1 1 0 0 0 0 0\na\n") for n in range(MANY))
+    yield "simplecss_imports", (b"@import 'a';" * MANY,), imports
+    yield "simplecss_print", (rules, 0), len(rules)
+    empty = sum(len(f"empty rule\t{3 * n}\t{3 * n + 3}\t\n") for n in range(MANY))
+    again = sum(len(f"repeated rule\t{3 * n}\t{3 * n + 1}\t\n") for n in range(1, MANY))
+    yield "simplecss_lint", (b"a{}" * MANY, 0), empty + again
+    policy = policy_of(b".m", (b"a",), (), (), (), (), longest=NO_LIMIT)
+    yield "simplecss_clean", (b"a:b;" * MANY, policy, 1), len(b"a: b; ") * MANY - 1
+    yield "simplecss_clean", (b"p{a:b}" * MANY, policy, 0), len(b".m p {a: b;}\n") * MANY
+    yield "simplecss_dropped", (b"b:c;" * MANY, policy, 1), 3 * MANY
+    unnamed = len(b"default\twindows-1252")
+    yield "simplecss_html_encoding", (b"<meta " * MANY, b" " * MANY), unnamed
+    yield "simplecss_close", (b"a" * MANY + b"(",), MANY + 2
+    yield "simplecss_media", (b"print," * MANY + b"print", SCREEN), len(b"false")
+    yield "simplecss_supports", (b"(a:b) and " * MANY + b"(a:b)", *many_texts(b"a", 1)), len(
+        b"true"
+    )
+    yield "simplecss_valid_value", (b"var(--a) " * MANY,), len(b"true")
+    pairs = many_texts(b"a", 2 * MANY)
+    yield "simplecss_values", (*pairs, MANY, 0, NO_LIMIT), 3 * MANY
+    yield "simplecss_tokens", (b"a " * MANY,), 5 * 2 * MANY
+    yield "simplecss_decode", (b"a" * MANY, 0), MANY
+    yield "simplecss_escape", (b"a" * MANY,), MANY
+    yield "simplecss_quote", (b"a" * MANY,), MANY + 2
+    yield from large_sheets()
+    yield "simplecss_port_selector", (b"a " * MANY,), len(b"a ") * MANY - 1 + len(b"\t0,0,255\n")
+    port_rules, port_declarations = many_texts(rules, 1), many_texts(many_declarations, 1)
+    for sheet in (port_rules, many_texts(b"p{a:b}")):
+        yield "simplecss_port_sheet", (*sheet, NO_LIMIT), len(b"p { a:b; }\n") * MANY
+        yield "simplecss_port_match", (*sheet, NO_LIMIT, _ONE_ELEMENT), 3 + digits(MANY) + MANY
+    yield "simplecss_port_style", (*port_rules, NO_LIMIT, _ONE_ELEMENT, b"a"), len(b"1: b\n")
+    yield "simplecss_port_style", (*port_declarations, NO_LIMIT, _ONE_ELEMENT, b"a"), len(b"1: b\n")
+    skipped = sum(len(f"1 {3 * n + 1} 2 at-rule not supported\n@x\n") for n in range(MANY))
+    yield "simplecss_port_skipped", (b"@x;" * MANY,), skipped
+
+
+class Pages(Case):
+    """The call that reads a page, which writes to two buffers."""
+
+    # A page after a mark of the order of bytes, and what the header says of it: two start tags, of the first
+    # of which there are two elements, two attributes, six elements in quirks mode, and two texts.
+    page = b"\xef\xbb\xbf<B A=&lt; a>x<p></b>y"
+    tags = [2, 3, 15, 16, 19]
+    heads = [2, 6, 2, 0, 1, 0, 4]
+    counts = [2, 0]
+    attributes = [*(6, 7, 8, 12, 12), *(13, 14, 14, 14, 14)]
+    strings = b"a<ahtmlheadbodybpbxy"
+
+    def setUp(self) -> None:
+        self.library = ctypes.CDLL(library_path())
+
+    def read(self, text: bytes, room: int, size: int) -> Tuple[int, int, int, List[int], bytes]:
+        """The status of a call, the two lengths, and the two buffers."""
+        out, strings = sizes([MARK] * (room + 2)), ctypes.create_string_buffer(bytes([MARK] * size))
+        lengths = SIZE(7), SIZE(8)
+        status = self.library.simplecss_html(
+            *(text, SIZE(len(text)), SIZE(0), b"", SIZE(0), SIZE(0)),
+            *(out, SIZE(room), ctypes.byref(lengths[0])),
+            *(strings, SIZE(size), ctypes.byref(lengths[1])),
+        )
+        return status, lengths[0].value, lengths[1].value, list(out), strings.raw[:size]
+
+    def test_answer(self) -> None:
+        status, count, size, numbers, strings = self.read(self.page, 200, 100)
+        self.assertEqual(status, DONE)
+        front = self.tags + self.heads + self.counts + self.attributes
+        self.assertEqual(numbers[: len(front)], front)
+        self.assertEqual(strings[:size], self.strings)
+        self.assertEqual(numbers[count - 1], size)
+        self.assertEqual(numbers[count:], [MARK] * (202 - count))
+
+    def test_rooms(self) -> None:
+        """With too little room in one of the buffers nothing is written."""
+        _, count, size, _, _ = self.read(self.page, 200, 100)
+        for room, length in ((count - 1, size), (count, size - 1), (0, 0), (count, 0)):
+            with self.subTest(room=room, size=length):
+                numbers, strings = [MARK] * (room + 2), bytes([MARK] * length)
+                due = (TOO_SMALL, count, size, numbers, strings)
+                self.assertEqual(self.read(self.page, room, length), due)
+        self.assertEqual(self.read(self.page, count, size)[0], DONE)
+
+    def test_failures(self) -> None:
+        deep = b"".join(b"<b id=%d><p>" % number for number in range(20_000))
+        for text, status in ((b"<p>\xff", NOT_UTF8), (deep, LIMIT)):
+            self.assertEqual(self.read(text, 2, 3), (status, 0, 0, [MARK] * 4, bytes([MARK] * 3)))
+
+
 class Large(Case):
-    """Texts of 10 MB."""
+    """Large texts: no call gives up while there is memory."""
 
     count = 10_000_000
 
@@ -1232,6 +1598,12 @@ class Large(Case):
         """The status and the length of a call."""
         status, _, length, _ = call(self.library, name, arguments, room)
         return status, length
+
+    def test_calls(self) -> None:
+        for name, arguments, length in large_questions():
+            with self.subTest(call=name, length=length):
+                status = DONE if length == 0 else TOO_SMALL
+                self.assertEqual(self.ends(name, *arguments), (status, length))
 
     def test_sheet(self) -> None:
         sheet = b"a { b: c }\n" * (self.count // 11)

@@ -20,7 +20,7 @@ static const size_t selector_ends[] = {2, 6};
 static const simplecss_element elements[] = {{0, 0, 0, 0}, {1, 1, 0, 0}, {1, 1, 0, 0}};
 static const size_t name_ends[] = {5};
 static const size_t pair_ends[] = {3, 11, 14, 54};
-static const simplecss_device device = {1280, 800, 2000, SIMPLECSS_SCREEN, SIMPLECSS_FINE, 1, 0, 0};
+static const simplecss_device device = SIMPLECSS_DESKTOP;
 static const char strings[] = "ullicl\tssnewlititlea\nb";
 static const size_t string_ends[] = {2, 4, 9, 12, 14, 19, 22};
 static const simplecss_tree tree = {elements, 3, TEXT(strings), string_ends, 7, NULL, 0, 0, NULL, 0};
@@ -46,6 +46,8 @@ static const char named[] = "@namespace n 'u'; n|a { b: c } [n|k] { d: e }";
 static const size_t named_ends[] = {sizeof(named) - 1};
 static const size_t url_ends[] = {1};
 static const simplecss_sheets declared = {TEXT(named), named_ends, 1, origins, 1, TEXT("mediax"), group_ends, 2, around, 0, depths, 0, TEXT("u"), url_ends, 1};
+static const size_t policy_ends[] = {2, 7, 10, 14, 19, 24};
+static const simplecss_policy policy = {TEXT(".mcolorrgbfonthoverprint"), policy_ends, 6, 1, 1, 1, 1, 1, 0, 4096};
 static uint8_t out[4096];
 static size_t numbers[128];
 
@@ -55,6 +57,40 @@ static int is_unwritten(const void *bytes, size_t count) {
     while (count > 0 && *at == 0xA5)
         at++, count--;
     return count == 0;
+}
+
+/* The status of a question to a list, or of why there is none: then the question finds no list. Lets the list go. */
+static uint32_t let_go(uint32_t made, uint32_t asked, simplecss_kept_list *list) {
+    if (made != SIMPLECSS_DONE && (asked != SIMPLECSS_CLOSED || list->at))
+        exit(1);
+    simplecss_list_free(list);
+    return made != SIMPLECSS_DONE ? made : asked;
+}
+
+static uint32_t list_numbers(const uint8_t *text, size_t count, size_t grammar, size_t *to, size_t room, size_t *len) {
+    simplecss_kept_list list = {0};
+    uint32_t made = simplecss_list_new(text, count, grammar, &list);
+    return let_go(made, simplecss_list_numbers(&list, to, room, len), &list);
+}
+
+static uint32_t list_text(const uint8_t *text, size_t count, size_t grammar, uint8_t *to, size_t room, size_t *len) {
+    simplecss_kept_list list = {0};
+    uint32_t made = simplecss_list_new(text, count, grammar, &list);
+    return let_go(made, simplecss_list_text(&list, to, room, len), &list);
+}
+
+/* The status of a question to a page, or of why there is none: then the question finds no page. Lets the page go. */
+static uint32_t page_select(size_t grammar, const uint8_t *text, size_t count, size_t *to, size_t room, size_t *len) {
+    simplecss_kept_page page = {0};
+    simplecss_tree_fault fault = {0, 0};
+    uint32_t made = simplecss_page_new(&spaced, grammar, &page, &fault);
+    uint32_t asked = simplecss_page_select(&page, text, count, 2, 0, 3, MOST, to, room, len);
+    if (made != SIMPLECSS_DONE && (asked != SIMPLECSS_CLOSED || page.at))
+        exit(1);
+    if (made == SIMPLECSS_DONE && !page.at)
+        exit(1);
+    simplecss_page_free(&page);
+    return made != SIMPLECSS_DONE ? made : asked;
 }
 
 int main(int count, char **words) {
@@ -67,7 +103,7 @@ int main(int count, char **words) {
     (void)!write(2, "begin", 5);
     switch (call) {
     case 0: status = simplecss_port_selector(TEXT("a b > c.d[e='f']:hover"), OUT); break;
-    case 1: status = simplecss_list(TEXT("a b, c > d, e + f"), SIMPLECSS_PORT, NUMBERS); break;
+    case 1: status = list_numbers(TEXT("a b, c > d, e + f"), SIMPLECSS_PORT, NUMBERS); break;
     case 2: status = simplecss_refusal(TEXT("a b, c > > d"), SIMPLECSS_PORT, TREE, OUT, &fault); break;
     case 3: status = simplecss_port_sheet(SHEET, OUT); break;
     case 4: status = simplecss_port_rules(SHEET, OUT); break;
@@ -80,7 +116,7 @@ int main(int count, char **words) {
     case 11: status = simplecss_read(TEXT("@media x { a, b:not(c), d::before { e: f; g } } h { } @i;"), MOST, NUMBERS); break;
     case 12: status = simplecss_declarations(TEXT("a: b !important; c"), NUMBERS); break;
     case 13: status = simplecss_match_selectors(TEXT("li.new"), selector_ends, 2, SIMPLECSS_PORT, TREE, MOST, OUT, &fault); break;
-    case 14: status = simplecss_list(TEXT("a\\62 > c, d:not(e, f)::before"), SIMPLECSS_MODERN, NUMBERS); break;
+    case 14: status = list_numbers(TEXT("a\\62 > c, d:not(e, f)::before"), SIMPLECSS_MODERN, NUMBERS); break;
     case 15: status = simplecss_refusal(TEXT("a, b:nth-child(2"), SIMPLECSS_MODERN, TREE, OUT, &fault); break;
     case 16: status = simplecss_match_selectors(TEXT("LI.new"), selector_ends, 2, SIMPLECSS_HTML, TREE, MOST, OUT, &fault); break;
     case 17: status = simplecss_select(TEXT("LI:empty, :is(UL, a) > .NEW"), SIMPLECSS_HTML_QUIRKS, TREE, MOST, OUT, &fault); break;
@@ -105,21 +141,28 @@ int main(int count, char **words) {
     case 36: status = simplecss_shorthands(TEXT("margin-left"), OUT); break;
     case 37: status = simplecss_inherited(TEXT("color"), OUT); break;
     case 38: status = simplecss_winners_named(&nested, SIMPLECSS_MODERN, 9, TREE, &own, &asked, MOST, NUMBERS, &fault); break;
-    case 39: status = simplecss_printed(TEXT("a b, c > d, e + f"), SIMPLECSS_PORT, OUT); break;
-    case 40: status = simplecss_printed(TEXT("a\\62 > c, d:not(e, f)::before"), SIMPLECSS_MODERN, OUT); break;
+    case 39: status = list_text(TEXT("a b, c > d, e + f"), SIMPLECSS_PORT, OUT); break;
+    case 40: status = list_text(TEXT("a\\62 > c, d:not(e, f)::before"), SIMPLECSS_MODERN, OUT); break;
     case 41: status = simplecss_imports(TEXT("@import 'a' layer(b) supports(c:d) print;"), OUT); break;
     case 42: status = simplecss_contents(TEXT("a { b: c; @media x { d { e } } }"), NUMBERS); break;
     case 43: status = simplecss_print(TEXT("a { b : c } @media x { d { e : f/**/g } }"), SIMPLECSS_LINES, OUT); break;
     case 44: status = simplecss_select(TEXT("[n|k], n|a"), SIMPLECSS_MODERN, &spaced, MOST, OUT, &fault); break;
     case 45: status = simplecss_matches(&declared, SIMPLECSS_MODERN, 9, &spaced, MOST, NUMBERS, &fault); break;
     case 46: status = simplecss_refusal(TEXT("[n|k], m|a"), SIMPLECSS_MODERN, &spaced, OUT, &fault); break;
+    case 47: status = simplecss_counterpart(TEXT("margin-top"), OUT); break;
+    case 48: status = simplecss_lint(TEXT("@import 'a'; @media (widht: 1) { a, a { b: c; b: d; margin: 0 } } @keyframes k { form { top: 0 } }"), 0, OUT); break;
+    case 49: status = page_select(SIMPLECSS_MODERN, TEXT("[n|k], ul > :scope"), NUMBERS); break;
+    case 50: status = page_select(SIMPLECSS_HTML, TEXT("LI:nth-child(1 of .new), UL:has([n|k])"), NUMBERS); break;
+    case 51: status = simplecss_clean(TEXT("a, b:hover { color: red; top: 0 } @media print { c { color: red } }"), &policy, SIMPLECSS_CLEAN_SHEET, OUT); break;
+    case 52: status = simplecss_dropped(TEXT("color: red; top: 0; color: url(a)"), &policy, SIMPLECSS_CLEAN_STYLE, NUMBERS); break;
+    case 53: status = simplecss_html_encoding(TEXT("<meta charset=koi8-r>"), TEXT("none"), OUT); break;
     default: break;
     }
     (void)!write(2, "end", 3);
     if (status != SIMPLECSS_DONE && len != 0)
         return 1;
     const size_t written = status == SIMPLECSS_DONE ? len : 0;
-    const int counts = call == 1 || call == 14 || call == 11 || call == 12 || call == 21 || call == 22 || (call >= 26 && call <= 31) || call == 38 || call == 42 || call == 45;
+    const int counts = call == 1 || call == 14 || call == 11 || call == 12 || call == 21 || call == 22 || (call >= 26 && call <= 31) || call == 38 || call == 42 || call == 45 || call == 49 || call == 50 || call == 52;
     if (!is_unwritten(out + (counts ? 0 : written), sizeof out - (counts ? 0 : written)))
         return 1;
     if (!is_unwritten(numbers + (counts ? written : 0), sizeof numbers - (counts ? written : 0) * sizeof *numbers))

@@ -7,17 +7,19 @@ texts are equal in each run.
 """
 from __future__ import annotations
 
-import json
 import os
 import random
 import re
-import subprocess
-from typing import Any, Dict, List, Optional, Sequence, Tuple, Union
+from functools import partial
+from typing import Any, Callable, Dict, Iterator, List, Optional, Sequence, Tuple, Union
 
-from tests.common import DEBIAN, Case, browser_answers, count, has_modules, program
+from tests.common import LEFT_OUT, Case, browser_answers, count, debian_answers, row
+from tests.syntax import replies_of
 
 # An element: its name, its attributes, and its children, which are elements and texts.
 Element = Tuple[str, Dict[str, str], List[Any]]
+# A tree, and texts for it.
+Work = Tuple[Element, List[str]]
 # What a text is: the numbers of the elements that it matches, None if it is refused, or that there
 # is no answer.
 Found = Union[List[int], None, str]
@@ -243,23 +245,12 @@ def lines_of(element: Element, depth: int = 0) -> List[str]:
 
 def answers_of(word: str, tree: Element, texts: Sequence[str]) -> List[str]:
     """What the program prints with a word, of a tree and lists of selectors."""
-    data = "\0".join(["\n".join(lines_of(tree))] + list(texts)).encode()
-    words = [program("tests_driver"), word]
-    made = subprocess.run(words, input=data, stdout=subprocess.PIPE, check=True).stdout.decode()
-    return made.split("\0")[:-1]
+    return replies_of(word, ["\n".join(lines_of(tree)), *texts])
 
 
 def seconds_of_programs() -> float:
     """How long the processor has worked for the programs that have ended."""
     return sum(os.times()[2:4])
-
-
-def replies(word: str, texts: Sequence[str]) -> List[str]:
-    """What the program prints with a word, of texts."""
-    words = [program("tests_driver"), word]
-    data = "\0".join(texts).encode()
-    made = subprocess.run(words, input=data, stdout=subprocess.PIPE, check=True).stdout.decode()
-    return made.split("\0")[:-1]
 
 
 def ours(tree: Element, texts: Sequence[str]) -> List[str]:
@@ -385,29 +376,6 @@ document.documentElement.textContent = "ANS" + "WER" + JSON.stringify(answers) +
 """
 
 
-def soup_finds(work: List[Tuple[Element, List[str]]]) -> Optional[List[List[Found]]]:
-    """What soupsieve finds, or None if it is missing."""
-    if not has_modules(DEBIAN, "soupsieve", "bs4", "lxml"):
-        return None
-    words = [DEBIAN, "-c", SOUP]
-    made = subprocess.run(
-        words, input=json.dumps(work), stdout=subprocess.PIPE, text=True, check=True
-    )
-    answers: List[List[Found]] = json.loads(made.stdout)
-    return answers
-
-
-def browser_finds(work: List[Tuple[Element, List[str]]]) -> Optional[List[List[Found]]]:
-    """What a browser finds, or None if it does not answer."""
-    return browser_answers(PAGE, work)
-
-
-def browser_texts(texts: Sequence[str]) -> Optional[List[Optional[str]]]:
-    """How a browser serializes each text, None where it refuses one, or None if it does not
-    answer."""
-    return browser_answers(SHEET, list(texts))
-
-
 # Differences that docs/DIFFERENCES.md names, by a list that is read before the place of a refusal, by
 # lists, and by a namespace.
 INNER = re.compile(r":(is|where|not|has|nth-[a-z-]*)\([^()]*(\([^()]*)*$", re.IGNORECASE)
@@ -476,81 +444,67 @@ def has_unknown(text: str) -> bool:
     return any(name not in (ELEMENTS if colons == "::" else KNOWN) for colons, name in names)
 
 
-class Judge:
-    """Compares what the program and another found, and counts."""
+def is_known(judge: str, text: str, reply: str, theirs: Found) -> bool:
+    """Whether a difference from a judge is one of those that are named."""
+    odd = ODD_IN_BROWSERS if judge == "chromium" else ODD_IN_SOUP
+    if any(map(odd.search, (text, plain(text)))):
+        return True
+    if judge == "soupsieve" and is_open(text):
+        return True
+    # soupsieve finds nothing by a prefix that is not declared.
+    if judge == "soupsieve" and reply.endswith(" is no declared prefix"):
+        return True
+    if reply.endswith(" is unsupported"):
+        odd_here = (FORGIVING, NESTED, NAMESPACE)
+        return any(each.search(plain(text)) for each in odd_here)
+    if found_of(reply) is None:
+        return bool(INNER.search(front_of(text, reply)))
+    is_forgiving = bool(FORGIVING.search(plain(text)))
+    if judge == "soupsieve" and theirs is None and is_forgiving:
+        return True
+    return has_unknown(text) and (theirs is None or is_forgiving)
 
-    def __init__(self, name: str) -> None:
-        self.name = name
-        self.total = self.left_out = 0
-        self.failures: List[str] = []
 
-    def compare(self, text: str, reply: str, theirs: Found) -> None:
-        """Compares one text."""
-        found = found_of(reply)
-        if theirs == "no answer" or found != theirs and self.is_known(text, reply, theirs):
-            self.left_out += 1
-            return
-        self.total += 1
-        if found != theirs:
-            self.failures.append(f"{text!r}: {self.name} has {theirs}, and not {reply!r}")
-
-    def is_known(self, text: str, reply: str, theirs: Found) -> bool:
-        """Whether the difference is one of those that are named."""
-        odd = ODD_IN_BROWSERS if self.name == "chromium" else ODD_IN_SOUP
-        if any(map(odd.search, (text, plain(text)))):
-            return True
-        if self.name == "soupsieve" and is_open(text):
-            return True
-        # soupsieve finds nothing by a prefix that is not declared.
-        if self.name == "soupsieve" and reply.endswith(" is no declared prefix"):
-            return True
-        if reply.endswith(" is unsupported"):
-            odd_here = (FORGIVING, NESTED, NAMESPACE)
-            return any(each.search(plain(text)) for each in odd_here)
-        if found_of(reply) is None:
-            return bool(INNER.search(front_of(text, reply)))
-        is_forgiving = bool(FORGIVING.search(plain(text)))
-        if self.name == "soupsieve" and theirs is None and is_forgiving:
-            return True
-        return has_unknown(text) and (theirs is None or is_forgiving)
+# Each judge, and what it finds by texts in trees, or None if it is missing.
+JUDGES: Dict[str, Callable[[List[Work]], Optional[Any]]] = {
+    "soupsieve": lambda work: debian_answers(SOUP, work, "soupsieve", "bs4", "lxml"),
+    "chromium": partial(browser_answers, PAGE),
+}
 
 
 class Random(Case):
     """What random texts match."""
 
-    def compare(self, kind: str, others: Sequence[str] = ("soupsieve", "chromium")) -> None:
-        """Compares random texts of this kind with what these others find."""
+    def compare(self, kind: str, judges: Sequence[str] = tuple(JUDGES)) -> None:
+        """Compares random texts of this kind with what these judges find."""
         source = Source(kind)
-        number = count(4000) // 50
+        number = count(1000) // 50
         work = [
             (source.tree(), [getattr(source, kind)() for _ in range(50)]) for _ in range(number)
         ]
         replies = [ours(tree, texts) for tree, texts in work]
-        finders = {"soupsieve": soup_finds, "chromium": browser_finds}
-        for name, finds in ((name, finders[name]) for name in others):
+        for name in judges:
             with self.subTest(judge=name):
-                self.judge(kind, name, finds(work), work, replies)
+                self.beside(name, kind, work, replies)
 
-    def judge(
-        self,
-        kind: str,
-        name: str,
-        theirs: Optional[List[List[Found]]],
-        work: List[Tuple[Element, List[str]]],
-        replies: List[List[str]],
-    ) -> None:
-        """Compares with what another found."""
-        if theirs is None:
-            self.skipTest(f"{kind} selectors beside {name}, which is missing or does not answer")
-        judge = Judge(name)
-        for (_, texts), answers, others in zip(work, replies, theirs):
-            for text, reply, other in zip(texts, answers, others):
-                judge.compare(text, reply, other)
-        print(
-            f"{judge.total} {kind} texts beside {name}; {judge.left_out} left out, of named"
-            " differences"
-        )
-        self.sweep(judge.total, judge.failures)
+    def beside(self, name: str, kind: str, work: List[Work], replies: List[List[str]]) -> None:
+        """Compares with what one judge finds."""
+
+        def judge(_: List[Any]) -> Optional[Any]:
+            return JUDGES[name](work)
+
+        def question(one: Tuple[Work, List[str]], answers: Any) -> Iterator[Optional[str]]:
+            (_, texts), replies = one
+            for text, reply, theirs in zip(texts, replies, answers):
+                found = found_of(reply)
+                is_odd = found != theirs and is_known(name, text, reply, theirs)
+                if theirs == "no answer" or is_odd:
+                    yield LEFT_OUT
+                else:
+                    yield row(f"{text!r}: {reply!r}", found, theirs)
+
+        missing = f"{kind} selectors beside {name}, which is missing or does not answer"
+        self.against(judge, zip(work, replies), question, missing)
 
     def test_selectors(self) -> None:
         self.compare("listed")
@@ -601,7 +555,7 @@ class Index(Case):
         source = Source("index")
         failures = []
         elements = 0
-        for _ in range(count(4000) // 50):
+        for _ in range(count(1000) // 50):
             tree, lists = source.tree(), [source.listed() for _ in range(50)]
             tested = [found_of(reply) or [] for reply in ours(tree, lists)]
             found = [numbers_of(search, tree, lists) for search in SEARCHES]
@@ -713,40 +667,38 @@ def as_browsers_do(printed: str) -> str:
 
 
 # A browser keeps what it leaves out of a list if there is an `&` or a `:scope` in it.
-LEFT_OUT = re.compile(r":has\(.*:has\(", re.IGNORECASE | re.DOTALL)
+HAS_IN_HAS = re.compile(r":has\(.*:has\(", re.IGNORECASE | re.DOTALL)
 
 
 def is_odd(text: str) -> bool:
     """Whether a browser reads the text otherwise or prints another number."""
-    is_known = any(each.search(text) for each in (ODD_IN_BROWSERS, LEFT_OUT))
+    is_known = any(each.search(text) for each in (ODD_IN_BROWSERS, HAS_IN_HAS))
     return is_known or "-0" in text
+
+
+# A text, and what the program replies.
+Replied = Tuple[str, str]
+
+
+def beside(page: str) -> Callable[[List[Replied]], Optional[List[Any]]]:
+    """What asks a browser how it serializes each text, of which it refuses some."""
+    return lambda asked: browser_answers(page, [text for text, _ in asked])
 
 
 class Serialized(Case):
     def test_serialized(self) -> None:
         """How selectors are serialized, beside a browser."""
         source = Source("printed")
-        texts = list(SERIALIZED) + [source.listed() for _ in range(count(4000))]
-        theirs = browser_texts(texts)
-        if theirs is None:
-            self.skipTest(
-                "serialized selectors beside chromium, which is missing or does not answer"
-            )
-        failures = []
-        left_out = 0
-        for text, reply, other in zip(texts, ours(("a", {}, []), texts), theirs):
-            printed = printed_of(reply)
-            is_left_out = None in (other, printed) or is_odd(text)
-            shown = printed and as_browsers_do(printed)
-            if text not in SERIALIZED and is_left_out:
-                left_out += 1
-            elif not shown or shown != other:
-                failures.append(f"{text!r}: chromium has {other!r}, and not {printed!r}")
-        print(
-            f"{len(texts)} serialized texts beside chromium; {left_out} left out, of named"
-            " differences"
-        )
-        self.sweep(len(texts) - left_out, failures)
+        texts = list(SERIALIZED) + [source.listed() for _ in range(count(1000))]
+        self.against(beside(SHEET), zip(texts, ours(("a", {}, []), texts)), self.question)
+
+    def question(self, one: Replied, other: Optional[str]) -> Iterator[Optional[str]]:
+        text, reply = one
+        printed = printed_of(reply)
+        if text not in SERIALIZED and (None in (other, printed) or is_odd(text)):
+            yield LEFT_OUT
+        else:
+            yield row(repr(text), as_browsers_do(printed or "refused"), other)
 
 
 # Lists of nested rules.
@@ -772,27 +724,19 @@ class NestedRules(Case):
         source = Source("nested")
         texts = [*NESTED_LISTS, *NESTED_REFUSED]
         texts += [
-            source.choice(("", "", *COMBINATORS)) + source.listed() for _ in range(count(4000))
+            source.choice(("", "", *COMBINATORS)) + source.listed() for _ in range(count(1000))
         ]
-        theirs = browser_answers(NESTED_SHEET, texts)
-        if theirs is None:
-            self.skipTest("nested lists beside chromium, which is missing or does not answer")
-        failures = []
-        left_out = 0
-        for text, reply, other in zip(texts, replies("nested", texts), theirs):
-            printed = printed_of(reply)
-            shown = printed and as_browsers_do(printed)
-            if text in NESTED_REFUSED:
-                if printed is not None or other is not None:
-                    failures.append(f"{text!r}: chromium has {other!r}, and not {printed!r}")
-            elif text not in NESTED_LISTS and (None in (other, printed) or is_odd(text)):
-                left_out += 1
-            elif not shown or shown != other:
-                failures.append(f"{text!r}: chromium has {other!r}, and not {printed!r}")
-        print(
-            f"{len(texts)} nested lists beside chromium; {left_out} left out, of named differences"
-        )
-        self.sweep(len(texts) - left_out, failures)
+        self.against(beside(NESTED_SHEET), zip(texts, replies_of("nested", texts)), self.question)
+
+    def question(self, one: Replied, other: Optional[str]) -> Iterator[Optional[str]]:
+        text, reply = one
+        printed = printed_of(reply)
+        if text in NESTED_REFUSED:
+            yield row(repr(text), (printed, other), (None, None))
+        elif text not in NESTED_LISTS and (None in (other, printed) or is_odd(text)):
+            yield LEFT_OUT
+        else:
+            yield row(repr(text), as_browsers_do(printed or "refused"), other)
 
 
 # What is before a pseudo-element, pseudo-elements, and what follows them, of which the last six are
@@ -913,20 +857,18 @@ class Unsupported(Case):
         ]
         refused += NEVER
         texts += [*FUNCTIONS, *NAMESPACES]
-        theirs = browser_texts([*texts, *refused])
-        if theirs is None:
-            self.skipTest("pseudo-elements beside chromium, which is missing or does not answer")
-        self.assertGreater(len([other for other in theirs if other]), 300)
-        failures = []
-        replies = ours(("a", {}, []), [*texts, *refused])
-        for text, reply, other in zip([*texts, *refused], replies, theirs):
+        read: List[str] = []
+
+        def question(one: Replied, other: Optional[str]) -> Iterator[Optional[str]]:
+            text, reply = one
+            read.extend([other] if other else [])
             is_read = not reply.startswith("refused") or reply.endswith(" is unsupported")
-            if other and not is_read or text in refused and (other or is_read):
-                failures.append(f"{text!r}: chromium has {other!r}, and not {reply!r}")
-        print(
-            f"{len(replies)} texts with pseudo-elements, functions and namespaces beside chromium"
-        )
-        self.sweep(len(replies), failures)
+            is_wrong = other and not is_read or text in refused and (other or is_read)
+            yield f"{text!r}: chromium has {other!r}, and not {reply!r}" if is_wrong else None
+
+        every = [*texts, *refused]
+        self.against(beside(SHEET), zip(every, ours(("a", {}, []), every)), question)
+        self.assertGreater(len(read), 300)
 
 
 # Language ranges, tags that are in each, and tags that are not: the examples of RFC 4647, section
@@ -986,16 +928,6 @@ json.dump(answers, sys.stdout)
 """
 
 
-def soup_languages(ranges: Sequence[str], tags: Sequence[str]) -> Optional[List[List[str]]]:
-    """The tags that soupsieve finds by each range, or None if it is missing."""
-    if not has_modules(DEBIAN, "soupsieve", "bs4"):
-        return None
-    data, words = json.dumps([ranges, tags]), [DEBIAN, "-c", SOUP_LANGUAGES]
-    made = subprocess.run(words, input=data, stdout=subprocess.PIPE, text=True, check=True)
-    answers: List[List[str]] = json.loads(made.stdout)
-    return answers
-
-
 class Languages(Case):
     """Which languages are in ranges."""
 
@@ -1031,11 +963,12 @@ class Languages(Case):
         self.assertEqual(both, sorted(first + second))
 
     def test_soupsieve(self) -> None:
-        theirs = soup_languages(self.ranges, self.tags)
-        if theirs is None:
-            self.skipTest("languages beside soupsieve, which is missing")
+        def soup(asked: List[Any]) -> Optional[List[Any]]:
+            return debian_answers(SOUP_LANGUAGES, [self.ranges, self.tags], "soupsieve", "bs4")
+
+        def question(one: Any, other: List[str]) -> Iterator[Optional[str]]:
+            yield LEFT_OUT if ODD_RANGES.search(one[0]) else row(one[0], one[1], other)
+
         answers = self.ours_in([f':lang("{wanted}")' for wanted in self.ranges])
-        for wanted, found, other in zip(self.ranges, answers, theirs):
-            if not ODD_RANGES.search(wanted):
-                with self.subTest(range=wanted):
-                    self.assertEqual(found, other)
+        missing = "languages beside soupsieve, which is missing"
+        self.against(soup, zip(self.ranges, answers), question, missing)

@@ -8,14 +8,13 @@ run.
 """
 from __future__ import annotations
 
-import json
 import re
-import subprocess
 import xml.etree.ElementTree
-from typing import Any, Dict, List, Optional, Sequence, Tuple
+from functools import partial
+from typing import Any, Callable, Dict, Iterator, List, Optional, Sequence, Tuple
 
 from tests import modern_selectors
-from tests.common import DEBIAN, Case, browser_answers, count, has_modules, package
+from tests.common import LEFT_OUT, Case, browser_answers, count, debian_answers, package, row
 
 package()
 from simplecss import SelectorError, StyleSheet, Tree, escape  # noqa: E402
@@ -167,6 +166,13 @@ def ours(tree: Tree, namespaces: Namespaces, text: str) -> Found:
 
 
 # What makes the elements of a tree in a browser.
+# What shows the answers of a page.
+SHOWN = """
+const shown = document.createElementNS("http://www.w3.org/1999/xhtml", "html");
+shown.textContent = "ANS" + "WER" + JSON.stringify(answers) + "END";
+document.documentElement.replaceWith(shown);
+</script>
+"""
 BUILD = """
 function build([space, name, attributes, children]) {
     const made = document.createElementNS(space || null, name);
@@ -202,11 +208,8 @@ for (const [tree, namespaces, texts] of JSON.parse(document.getElementById("inpu
             getComputedStyle(all[at]).getPropertyValue("--found") != "");
     }));
 }
-const shown = document.createElementNS("http://www.w3.org/1999/xhtml", "html");
-shown.textContent = "ANS" + "WER" + JSON.stringify(answers) + "END";
-document.documentElement.replaceWith(shown);
-</script>
 """
+    + SHOWN
 )
 
 SHEETS = (
@@ -233,13 +236,11 @@ for (const [tree, texts] of JSON.parse(document.getElementById("input").textCont
         return names.map(name => [...all.keys()].filter(at => styles[at].getPropertyValue(name) != ""));
     }));
 }
-const shown = document.createElementNS("http://www.w3.org/1999/xhtml", "html");
-shown.textContent = "ANS" + "WER" + JSON.stringify(answers) + "END";
-document.documentElement.replaceWith(shown);
-</script>
 """
+    + SHOWN
 )
 
+SOUP_MODULES = ("soupsieve", "bs4", "lxml")
 SOUP = r"""
 import json, sys
 import soupsieve
@@ -285,15 +286,6 @@ for tree, namespaces, texts in json.load(sys.stdin):
     answers.append([select(root, numbers, namespaces, text) for text in texts])
 json.dump(answers, sys.stdout)
 """
-
-
-def soup_finds(work: List[Work]) -> Optional[Any]:
-    """What soupsieve finds, or None if it is missing."""
-    if not has_modules(DEBIAN, "soupsieve", "bs4", "lxml"):
-        return None
-    words, data = [DEBIAN, "-c", SOUP], json.dumps(work)
-    made = subprocess.run(words, input=data, stdout=subprocess.PIPE, text=True, check=True)
-    return json.loads(made.stdout)
 
 
 def works() -> List[Work]:
@@ -422,74 +414,54 @@ class SheetSource(Source):
         return self.choice((" ", "\n", "")).join((*parts, *rules)), rules
 
 
-class Judge:
-    """Compares what the package and another found, and counts."""
-
-    def __init__(self, name: str) -> None:
-        self.name = name
-        self.total = self.matched = self.refused = self.left_out = 0
-        self.failures: List[str] = []
-
-    def compare(self, tree: Tree, namespaces: Namespaces, text: str, theirs: Found) -> None:
-        """Compares one text."""
-        found = ours(tree, namespaces, text)
-        if found != theirs and self.is_known(tree, namespaces, text, found):
-            self.left_out += 1
-            return
-        self.total += 1
-        self.matched += bool(found)
-        self.refused += found is None
-        if found != theirs:
-            said = f"{text!r} in {namespaces}"
-            self.failures.append(f"{said}: {self.name} has {theirs}, and not {found}")
-
-    def is_known(self, tree: Tree, namespaces: Namespaces, text: str, found: Found) -> bool:
-        """Whether the difference is one of those that are named."""
-        reason = "" if found is not None else bare_refusal(tree, text)
-        if reason:
-            # Combinators in lists of lists are unsupported; `:has()` in `:has()` is in soupsieve alone.
-            is_inner = self.name == "soupsieve" and reason == "`:has` is not expected here"
-            return is_inner or reason.endswith(" is unsupported")
-        if found is None and ours(tree, ALL_DECLARED, text) is not None:
-            # A prefix that is not declared refuses the list; in a browser not within these lists,
-            # and nowhere in soupsieve.
-            return self.name == "soupsieve" or bool(modern_selectors.FORGIVING.search(text))
-        if self.name == "chromium":
-            is_listed = "" in namespaces and LISTED.search(text)
-            return bool(is_listed or ODD_IN_BROWSERS.search(text))
-        if "" in namespaces and NO_TYPE.search(text):
-            return True
-        is_spaced = "" in namespaces.values() and SPACED_ATTRIBUTE.search(text)
-        odd = ODD_IN_SOUP.search(text) or modern_selectors.ODD_IN_SOUP.search(text)
-        return bool(is_spaced or odd)
+def is_known(judge: str, tree: Tree, namespaces: Namespaces, text: str, found: Found) -> bool:
+    """Whether a difference from a judge is one of those that are named."""
+    reason = "" if found is not None else bare_refusal(tree, text)
+    if reason:
+        # Combinators in lists of lists are unsupported; `:has()` in `:has()` is in soupsieve alone.
+        is_inner = judge == "soupsieve" and reason == "`:has` is not expected here"
+        return is_inner or reason.endswith(" is unsupported")
+    if found is None and ours(tree, ALL_DECLARED, text) is not None:
+        # A prefix that is not declared refuses the list; in a browser not within these lists,
+        # and nowhere in soupsieve.
+        return judge == "soupsieve" or bool(modern_selectors.FORGIVING.search(text))
+    if judge == "chromium":
+        is_listed = "" in namespaces and LISTED.search(text)
+        return bool(is_listed or ODD_IN_BROWSERS.search(text))
+    if "" in namespaces and NO_TYPE.search(text):
+        return True
+    is_spaced = "" in namespaces.values() and SPACED_ATTRIBUTE.search(text)
+    odd = ODD_IN_SOUP.search(text) or modern_selectors.ODD_IN_SOUP.search(text)
+    return bool(is_spaced or odd)
 
 
 class Random(Case):
     """What random texts match."""
 
-    work = works()
+    def compare(self, name: str, finds: Callable[[List[Work]], Optional[Any]]) -> None:
+        """Compares with what another finds."""
+        matched: List[bool] = []
 
-    def compare(self, name: str, theirs: Optional[Any]) -> None:
-        """Compares with what another found."""
-        if theirs is None:
-            self.skipTest(f"namespaces beside {name}, which is missing or does not answer")
-        judge = Judge(name)
-        for (element, namespaces, texts), answers in zip(self.work, theirs):
+        def question(work: Work, answers: Sequence[Found]) -> Iterator[Optional[str]]:
+            element, namespaces, texts = work
             tree = Tree.from_etree(etree_of(element))
-            for text, other in zip(texts, answers):
-                judge.compare(tree, namespaces, text, other)
-        self.assertGreater(10 * judge.matched, judge.total)
-        print(
-            f"{judge.total} texts with namespaces beside {name}, of which {judge.refused} are refused;"
-            f" {judge.left_out} left out, of named differences"
-        )
-        self.sweep(judge.total, judge.failures)
+            for text, theirs in zip(texts, answers):
+                found = ours(tree, namespaces, text)
+                if found != theirs and is_known(name, tree, namespaces, text, found):
+                    yield LEFT_OUT
+                else:
+                    matched.append(bool(found))
+                    yield row(f"{text!r} in {namespaces}", found, theirs)
+
+        missing = f"namespaces beside {name}, which is missing or does not answer"
+        self.against(finds, works(), question, missing)
+        self.assertGreater(10 * sum(matched), len(matched))
 
     def test_chromium(self) -> None:
-        self.compare("chromium", browser_answers(PAGE, self.work))
+        self.compare("chromium", partial(browser_answers, PAGE))
 
     def test_soupsieve(self) -> None:
-        self.compare("soupsieve", soup_finds(self.work))
+        self.compare("soupsieve", lambda work: debian_answers(SOUP, work, *SOUP_MODULES))
 
 
 class Sheets(Case):
@@ -499,33 +471,28 @@ class Sheets(Case):
         source = SheetSource("sheets")
         number = count(1600) // 16
         work = [(source.spaced_tree(), [source.sheet() for _ in range(8)]) for _ in range(number)]
-        asked = [(tree, [text for text, _ in sheets]) for tree, sheets in work]
-        theirs = browser_answers(SHEETS, asked)
-        if theirs is None:
-            self.skipTest("sheets with namespaces: chromium is missing or does not answer")
-        failures: List[str] = []
-        total = applied = left_out = 0
-        for (element, sheets), answers in zip(work, theirs):
+        applied: List[bool] = []
+
+        def browser(work: List[Any]) -> Optional[List[Any]]:
+            asked = [(tree, [text for text, _ in sheets]) for tree, sheets in work]
+            return browser_answers(SHEETS, asked)
+
+        def question(one: Any, answers: Any) -> Iterator[Optional[str]]:
+            element, sheets = one
             tree = Tree.from_etree(etree_of(element))
             for (text, rules), due in zip(sheets, answers):
                 found = styled(tree, text)
-                total += len(rules)
-                applied += sum(map(bool, due[1:]))
+                applied.extend(map(bool, due[1:]))
                 for at in range(1, PROPERTIES):
-                    if found[at] == due[at]:
-                        continue
-                    if is_known_in_sheets(tree, rules[at - 1]):
-                        left_out += 1
+                    if found[at] != due[at] and is_known_in_sheets(tree, rules[at - 1]):
+                        yield LEFT_OUT
                     else:
-                        said = f"{text!r}: --p{at} applies to {due[at]} in chromium, and not {found[at]}"
-                        failures.append(said)
-        self.assertGreater(5 * applied, total)
-        self.assertLess(15 * left_out, total)
-        print(
-            f"{total} rules of sheets with namespaces beside chromium, of which {applied} apply;"
-            f" {left_out} left out, of named differences"
-        )
-        self.sweep(total - left_out, failures)
+                        yield row(f"{text!r}: --p{at} applies to", found[at], due[at])
+
+        missing = "sheets with namespaces: chromium is missing or does not answer"
+        left_out = self.against(browser, work, question, missing)
+        self.assertGreater(5 * sum(applied), len(applied))
+        self.assertLess(15 * left_out, len(applied))
 
 
 def styled(tree: Tree, text: str) -> List[List[int]]:
@@ -538,7 +505,7 @@ def styled(tree: Tree, text: str) -> List[List[int]]:
 
 
 def is_known_in_sheets(tree: Tree, rule: str) -> bool:
-    """Whether a rule has what `Judge.is_known` names: a list in which a prefix may not be declared, or
+    """Whether a rule has what `is_known` names: a list in which a prefix may not be declared, or
     a default namespace may not count; or combinators in a list of a list. A browser does not restrict
     an `&` that is not written to the default namespace."""
     selector, *inner = rule.removeprefix("@media all {").split("{")
@@ -636,27 +603,21 @@ class Pages(Case):
     def test_html(self) -> None:
         """The elements of a page are in the namespaces that a browser gives them."""
         source = Source("pages")
-        pages = [random_page(source) for _ in range(count(2000))]
-        theirs = browser_answers(HTML_PAGE, pages)
-        if theirs is None:
-            self.skipTest("namespaces of pages: chromium is missing or does not answer")
-        failures, drawn, left_out = [], 0, 0
-        for text, due in zip(pages, theirs):
-            found = found_in(Tree.from_html(text))
-            drawn += sum(space != HTML for _, space, _ in due)
-            for _, _, attributes in due:
-                attributes[:] = sorted(
-                    each for each in attributes if each[1] not in ("color", "encoding")
-                )
+        drawn: List[bool] = []
+
+        def question(text: str, due: Any) -> Iterator[Optional[str]]:
+            found = [[*each[:2], sorted(each[2])] for each in found_in(Tree.from_html(text))]
+            drawn.extend(space != HTML for _, space, _ in due)
+            for each in due:
+                each[2] = sorted(it for it in each[2] if it[1] not in ("color", "encoding"))
             if [each[0] for each in found] != [each[0] for each in due]:
                 # Chromium corrects some misnested tags in another way than the standard.
-                left_out += 1
-            elif [[*each[:2], sorted(each[2])] for each in found] != due:
-                failures.append(f"{text}: chromium has {due}, and not {found}")
-        self.assertGreater(drawn, len(pages))
+                yield LEFT_OUT
+            else:
+                yield row(text, found, due)
+
+        pages = [random_page(source) for _ in range(count(2000))]
+        missing = "namespaces of pages: chromium is missing or does not answer"
+        left_out = self.against(partial(browser_answers, HTML_PAGE), pages, question, missing)
+        self.assertGreater(sum(drawn), len(pages))
         self.assertLess(100 * left_out, len(pages))
-        print(
-            f"{len(pages) - left_out} pages, with {drawn} elements of SVG and MathML, beside chromium;"
-            f" {left_out} left out, whose elements differ"
-        )
-        self.sweep(len(pages) - left_out, failures)

@@ -10,15 +10,42 @@ from __future__ import annotations
 import os
 import random
 import re
+from collections import Counter
+from functools import partial
 from typing import Any, Dict, Iterator, List, NamedTuple, Optional, Sequence, Tuple
 
-from tests.common import Case, browser_answers, count, library_path, package
+from tests.common import Case, browser_answers, count, package, row, rows
 from tests.syntax import fields_of
+
+package()
+from simplecss import StyleSheet, Tree, inline  # noqa: E402
 
 SIMPLE = ("a", "b", ".c", "#d", "*", "a.c", "b:hover", "[e]", "a:first-child", ".c.f")
 WITHIN = ("&", "&", "& b", ".c &", "& &", "&.c", "&:hover", "a&", "& > &", ".c & .f", "& > b ~ a")
 RELATIVE = ("> a", "+ .c", "~ b", "> &", "a", ".c", "b > a", ":hover", "#d + a", ">a.c", "+ & > b")
+SHADOWED = (":host", "b:host", ":host(.c) a", "::slotted(a)", "& :host", ":is(:host)")
 WRONG = ("a..b", "1", "a >", "> > a", "&&&%", "a ! b", ", a")
+# Of no element; and invalid parts of forgiving lists, which count no more than the others.
+ELEMENTS = ("a::before", "#d::after", ".c.f::before", "&::after", "b &::before")
+FORGIVING = (
+    ":is(.c, !&)",
+    ":is(!, .f)",
+    ":where(a, [&], b)",
+    "b:is(.c, &::before)",
+    ":not(:is(.f, !&))",
+)
+# `:has()` around `&`, where `&` may stand for a list that has one.
+HAS = (
+    *("a:has(b)", "b:has(> a)", ":has(.c)", "a:has(~ b)", "b:not(:has(a))", ":is(a:has(b), .c)"),
+    *("a:has(.f), b", ":not(:has(.c))", "b:has(+ a), a", "*:has(#d)", "a", ".c", ":has(b, .f) > *"),
+)
+WITHIN_HAS = (
+    *("a:has(&)", ":has(:is(&))", "b:not(:has(&))", ":has(:nth-child(1 of &))", ":has(> &)"),
+    *("& :has(&)", "&:has(&)", ":has(:not(&))", "a:not(:has(:not(&)))", ":has(& b)", ":has(& > a)"),
+    *(":is(a, :has(&))", ":where(:has(~ &)) *", ":has(+ &)", "&", "& b", ":not(&)", "&:has(b)"),
+    *("&:not(:has(a))", ":has(:nth-last-child(2n+1 of &, a))", ":has(:is(&, .c))", ":has(&, .f)"),
+    *(":has(.f &)", ":has(:not(& a))", ".c:has(b) &", "b:has(a)", ":has(:where(& > &, b))"),
+)
 GROUPS = ("@media all", "@supports (color: red)", "@layer x", "@layer", "@MEDIA screen")
 SKIPPED = ("foo;", "@foo;", "color:;", ";", "/* x */", "foo: ;", "{}")
 
@@ -140,6 +167,52 @@ ORDERING = (
 
 # The elements around such a tree, as far as selectors see them.
 AROUND = '<html><head/><body><div id="room">%s</div></body></html>'
+SEEN_AROUND = '<html><head><meta/><script/><style/></head><body><div id="room">%s</div><script/></body></html>'
+
+# Sheets and which elements of `ROWS_TREE` have `--p0x: 1`, by their places there, as Chromium says.
+ROWS_TREE: "Built" = (
+    "a",
+    [("class", "c"), ("e", "x")],
+    [("b", [], []), ("a", [("class", "f")], [("b", [("id", "d")], [])])],
+)
+ROWS: Tuple[Tuple[str, List[int]], ...] = (
+    # Selectors with a pseudo-element are not in the list that `&` stands for, and do not count.
+    (".c, .c::after { &[e] { --p0x: 1 } } .c[e] { --p0x: 2 }", []),
+    (".c, .c::after { &[e] { --p0x: 1 } } [e] { --p0x: 2 }", [0]),
+    ("#z::before, .c { & b { --p0x: 1 } } .c.c b { --p0x: 2 }", []),
+    ("#z::before, .c { & b { --p0x: 1 } } b { --p0x: 2 }", [1, 3]),
+    ("#z, .c { & b { --p0x: 1 } } .c.c b { --p0x: 2 }", [1, 3]),
+    (".c, b::before { & { --p0x: 1 } } .c { --p0x: 2 }", []),
+    ("::before, .c { & { --p0x: 1 } } :where(.c) { --p0x: 2 }", [0]),
+    (".c::before { & { --p0x: 1 } & b { --p0x: 1 } }", []),
+    # An `&` counts in an invalid selector of a forgiving list, too, unless it is part of another token.
+    (".f { :is(b, !&) { --p0x: 1 } }", [1, 3]),
+    (".f { :where(b, [&], c) { --p0x: 1 } }", [1, 3]),
+    (".f { :is(b, :foo(&)) { --p0x: 1 } }", [1, 3]),
+    (".f { :is(b, &::before) { --p0x: 1 } }", [1, 3]),
+    (".f { :is(b, :not(!&)) { --p0x: 1 } }", [1, 3]),
+    (".f { :not(:is(b, !&)) { --p0x: 1 } }", [0, 2]),
+    (".f { :is(b, !) { --p0x: 1 } }", [3]),
+    (".f { :is(b, \\&) { --p0x: 1 } }", [3]),
+    (".f { :is(b, !/*&*/) { --p0x: 1 } }", [3]),
+    (".f { :is(b, '&') { --p0x: 1 } }", [3]),
+    (".f { :is(b, [a='&']) { --p0x: 1 } }", [3]),
+    (".f { :is(b, !url(&)) { --p0x: 1 } }", [3]),
+    # Inside `:has()` an `&` stands for its list with each `:has()` false, but counts as much as ever.
+    ("a:has(b) { :has(&) { --p0x: 1 } }", []),
+    ("a:has(b), #d { a:has(&) { --p0x: 1 } }", [0, 2]),
+    ("a:has(b) { a:not(:has(&)) { --p0x: 1 } }", [0, 2]),
+    ("a:has(b) { a:has(:not(&)) { --p0x: 1 } }", [0, 2]),
+    ("a:not(:has(b)) { a:has(> &) { --p0x: 1 } }", [0]),
+    ("a:has(b), b { a:has(> :nth-child(1 of &)) { --p0x: 1 } }", [0, 2]),
+    ("a:has(b) { a:has(> :nth-child(1 of &)) { --p0x: 1 } }", []),
+    ("a:has(b) { a:nth-child(1 of &) { --p0x: 1 } }", [0, 2]),
+    ("a:has(b) { &.f { a:has(&) { --p0x: 1 } } }", []),
+    ("a:has(b) { &.f { & b { --p0x: 1 } } }", [3]),
+    ("a:has(b) { :has(&) { :not(&) { --p0x: 1 } } }", [0, 1, 2, 3]),
+    ("a:has(b), .f { .c:has(&) { --p0x: 1 } } a[e].c.c { --p0x: 2 }", []),
+    ("#z:has(b), .f { .c:has(&) { --p0x: 1 } } a[e].c.c { --p0x: 2 }", [0]),
+)
 
 # An element: its name, its attributes and its children.
 Built = Tuple[str, List[Tuple[str, str]], List["Built"]]
@@ -170,6 +243,8 @@ class Source:
         parts = [one(one(kinds)) for _ in range(one((1, 1, 1, 2, 3)))]
         if self._random.random() < 0.05:
             parts.append(one(WRONG))
+        if self._shared and self._random.random() < 0.3:
+            parts.append(one(one((ELEMENTS, FORGIVING))))
         return one((", ", ",", " , ")).join(parts)
 
     def _item(self, depth: int) -> str:
@@ -204,6 +279,31 @@ class Source:
         kept = [each for each in attributes if self._random.random() < 0.4]
         count = self._random.randrange(1, 4) if depth < 4 else 0
         return one("ab"), kept, [self.tree(depth + 1) for _ in range(count)]
+
+
+class Unsupported(Source):
+    """Random sheets, of which some selectors are of shadow trees."""
+
+    def _list(self, depth: int) -> str:
+        text, shadowed = super()._list(depth), self._random.choice(SHADOWED)
+        return self._random.choice((text, text, text, f"{text}, {shadowed}", shadowed))
+
+
+class Having(Source):
+    """Random sheets of one rule in another, whose selectors have `:has()`.
+
+    The browser keeps what it found of `:has(&)` and of `:nth-child(.. of S)` by their texts, also for another
+    `&` and inside `:has()`. So there is one chain of rules in each sheet.
+    """
+
+    def sheet(self, cut: float = 0.1) -> str:
+        """A chain of two to four rules. None is cut."""
+        chain = [self._random.choice(HAS)]
+        for _ in range(self._random.randrange(1, 4)):
+            parts = [self._random.choice(WITHIN_HAS) for _ in range(self._random.choice((1, 1, 2)))]
+            chain.append(", ".join(parts))
+        blocks = [f"{each} {{ --p0x: {depth}; " for depth, each in enumerate(chain)]
+        return "".join(blocks) + "}" * len(blocks)
 
 
 class Pages(Source):
@@ -297,6 +397,11 @@ def ours(fields: Sequence[Sequence[str]]) -> List[Placed]:
     return placed
 
 
+def won(names: List[str], cases: List[Dict[str, Any]]) -> Optional[List[Any]]:
+    """The values that the browser computes of these properties in each case."""
+    return browser_answers(WON, {"names": names, "cases": cases})
+
+
 def theirs(found: Sequence[Tuple[str, Sequence[str]]]) -> List[Placed]:
     """The declarations that the browser reads."""
     return [(name, [sorted(selectors.split(", ")) for selectors in chain]) for name, chain in found]
@@ -304,60 +409,98 @@ def theirs(found: Sequence[Tuple[str, Sequence[str]]]) -> List[Placed]:
 
 class NestedRules(Case):
     def test_sheets(self) -> None:
+        """The declarations that the program reads, each with the selectors around it."""
         source = Source(66)
         texts = [source.sheet() for _ in range(count(3_000))]
-        found: Optional[List[List[Tuple[str, List[str]]]]] = browser_answers(PAGE, texts)
-        if found is None:
-            self.skipTest("no browser answers")
-        failures = []
-        for text, answer, fields in zip(texts, found, fields_of("nesting", texts)):
-            if ours(fields) != theirs(answer):
-                failures.append(f"{text!r}: {ours(fields)}, in the browser {theirs(answer)}")
-        self.sweep(len(texts), failures)
+
+        def browser(asked: List[Any]) -> Optional[List[Any]]:
+            return browser_answers(PAGE, [text for text, _ in asked])
+
+        def question(one: Any, answer: Any) -> Iterator[Optional[str]]:
+            text, fields = one
+            yield row(repr(text), ours(fields), theirs(answer))
+
+        self.against(browser, zip(texts, fields_of("nesting", texts)), question)
+
+    def test_unsupported(self) -> None:
+        """Each declaration that the browser reads is in a rule of the package or in an unsupported one for each
+        selector, also those of group rules and nested rules whose selectors are unsupported."""
+        source = Unsupported(70)
+
+        def question(text: str, answer: Any) -> Iterator[Optional[str]]:
+            sheet = StyleSheet(text)
+            stated = [each.declarations for each in sheet.rules]
+            stated += [each.declarations for each in sheet.unsupported]
+            names = (it.name for declarations in stated for it in declarations)
+            mine = Counter(name for name in names if name.startswith("--"))
+            yield row(
+                repr(text), mine, Counter({it: len(chain[0].split(", ")) for it, chain in answer})
+            )
+
+        texts = (source.sheet() for _ in range(count(2_000)))
+        self.against(partial(browser_answers, PAGE), texts, question)
 
     def test_winners(self) -> None:
         """The package finds the values that the browser computes, and the rules of `match` have them."""
-        os.environ.setdefault("SIMPLECSS_LIBRARY", library_path())
-        package()
-        from simplecss import StyleSheet, Tree
-
         source = Source(67, shared=6)
         names = [f"--p{number}x" for number in range(6)]
-        cases: List[Dict[str, Any]] = [
+        cases = [
             {"text": source.sheet(cut=0), "tree": source.tree(), "names": names}
             for _ in range(count(1_000))
         ]
-        found = browser_answers(WON, {"names": names, "cases": cases})
-        if found is None:
-            self.skipTest("no browser answers")
-        failures, total = [], 0
-        for case, answer in zip(cases, found):
+
+        def question(case: Dict[str, Any], answer: Any) -> List[Optional[str]]:
             sheet, tree = StyleSheet(case["text"]), Tree.from_xml(AROUND % xml_of(case["tree"]))
-            styles = list(sheet.styles(tree))[-len(answer) :]
-            matched = list(sheet.match(tree))[-len(answer) :]
-            for each, rules, due in zip(styles, matched, answer):
-                total += 1
-                won = sorted([it.name, it.value] for it in each)
-                stated = {it.name for rule in rules for it in sheet.rules[rule].declarations}
-                if won != sorted(due) or stated != {name for name, _ in due}:
-                    failures.append(f"{case['text']!r}: {won}, {stated}, in the browser {due}")
-        self.sweep(total, failures)
+            found = []
+            for each, matched in zip(sheet.styles(tree), sheet.match(tree)):
+                stated = {it.name for rule in matched for it in sheet.rules[rule].declarations}
+                found.append((sorted([it.name, it.value] for it in each), stated))
+            due = [(sorted(each), {name for name, _ in each}) for each in answer]
+            return rows(repr(case["text"]), found[-len(due) :], due)
+
+        self.against(lambda asked: won(names, asked), cases, question)
+
+    def test_has(self) -> None:
+        """Inside `:has()` each `:has()` is false that `&` reaches, as in the browser."""
+        source, names = Having(int(os.environ.get("SEED", 89))), ["--p0x"]
+        cases: List[Dict[str, Any]] = [
+            {"text": source.sheet(), "tree": source.tree(), "names": names}
+            for _ in range(count(1_000))
+        ]
+
+        def question(case: Dict[str, Any], answer: Any) -> Iterator[Optional[str]]:
+            tree = Tree.from_xml(SEEN_AROUND % xml_of(case["tree"]))
+            found = StyleSheet(case["text"]).style(tree, "--p0x")[-len(answer) - 1 : -1]
+            mine = [each.value if each else None for each in found]
+            yield row(repr(case["text"]), mine, [each[0][1] if each else None for each in answer])
+
+        self.against(lambda asked: won(names, asked), cases, question)
+
+    def test_rows(self) -> None:
+        """What `&` stands for, what it counts, and where it is."""
+        tree = Tree.from_xml(AROUND % xml_of(ROWS_TREE))
+        for text, due in ROWS:
+            with self.subTest(text=text):
+                found = StyleSheet(text).style(tree, "--p0x")[-4:]
+                self.assertEqual([at for at, it in enumerate(found) if it and it.value == "1"], due)
+
+        def question(case: Dict[str, Any], answer: Any) -> Iterator[Optional[str]]:
+            found = [at for at, each in enumerate(answer) if each == [["--p0x", "1"]]]
+            yield row(case["text"], found, case["due"])
+
+        names = ["--p0x"]
+        cases = [{"text": it, "due": due, "tree": ROWS_TREE, "names": names} for it, due in ROWS]
+        self.against(lambda asked: won(names, asked), cases, question)
 
     def test_inlined(self) -> None:
         """Pages look in the browser as they did before `inline`."""
-        os.environ.setdefault("SIMPLECSS_LIBRARY", library_path())
-        package()
-        from simplecss import inline
-
         source = Pages(int(os.environ.get("SEED", 68)))
-        before = [source.page() for _ in range(count(100))]
-        after = [inline(each) for each in before]
-        work = {"names": LOOKED_AT, "pages": list(zip(before, after))}
-        found = browser_answers(LOOKS, work)
-        if found is None:
-            self.skipTest("no browser answers")
-        failures = []
-        for page, written, (first, second) in zip(before, after, found):
-            if first != second:
-                failures.append(f"{page!r}: {written!r}, {first}, then {second}")
-        self.sweep(len(before), failures)
+        pages = [source.page() for _ in range(count(100))]
+
+        def browser(pages: List[Any]) -> Optional[List[Any]]:
+            return browser_answers(LOOKS, {"names": LOOKED_AT, "pages": pages})
+
+        def question(pair: Tuple[str, str], looks: Any) -> Iterator[Optional[str]]:
+            yield row(pair, *reversed(looks))
+
+        self.against(browser, [(page, inline(page)) for page in pages], question)

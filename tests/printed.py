@@ -14,9 +14,9 @@ import importlib.util
 import os
 import random
 import re
-from typing import Any, Dict, List, Sequence
+from typing import Any, Callable, Dict, Iterator, List, Optional, Sequence
 
-from tests.common import Case, browser_answers, by_debian, count, package
+from tests.common import LEFT_OUT, Case, browser_answers, by_debian, count, package
 from tests.sheets import bare_rules
 
 package()
@@ -395,21 +395,34 @@ class Printed(Case):
         self.texts = [source.sheet() for _ in range(count(2_000))]
         self.layouts = (simplecss.minify, simplecss.prettify)
 
+    def question(
+        self, read: Callable[[str], Any], is_left_out: Callable[[str], bool] = lambda shown: False
+    ) -> Callable[[str, Any], Iterator[Optional[str]]]:
+        """Asks whether what is read of each printed text is what is read of the sheet."""
+
+        def rows(text: str, due: Any) -> Iterator[Optional[str]]:
+            for printed in [layout(text) for layout in self.layouts]:
+                found = read(printed)
+                if is_left_out(f"{due}{found}"):
+                    yield LEFT_OUT
+                else:
+                    yield None if found == due else f"{text!r}: {due}, but {found} of {printed!r}"
+
+        return rows
+
     def test_browser(self) -> None:
         """The browser has the same rules of both texts."""
-        rows = [[text, *(layout(text) for layout in self.layouts)] for text in self.texts]
-        found = browser_answers(PAGE, {"sheets": rows, "names": list(VALUES)})
-        if found is None:
-            self.skipTest("rules of printed sheets: no browser answers")
-        failures = []
-        for texts, answers in zip(rows, found):
+
+        def browser(texts: List[str]) -> Optional[List[Any]]:
+            rows = [[text, *(layout(text) for layout in self.layouts)] for text in texts]
+            return browser_answers(PAGE, {"sheets": rows, "names": list(VALUES)})
+
+        def question(text: str, answers: Any) -> Iterator[Optional[str]]:
             due, *printed = map(compared_all, answers)
-            failures += [
-                f"{texts[0]!r}: {due}, but {rules} of {text!r}"
-                for text, rules in zip(texts[1:], printed)
-                if rules != due
-            ]
-        self.sweep(len(self.layouts) * len(rows), failures)
+            for rules in printed:
+                yield None if rules == due else f"{text!r}: {due}, but {rules}"
+
+        self.against(browser, self.texts, question, "rules of printed sheets: no browser answers")
 
     def test_tinycss2(self) -> None:
         """tinycss2 reads the same rules of both texts, but for blanks, where no rule is nested. A text
@@ -417,27 +430,14 @@ class Printed(Case):
         if not importlib.util.find_spec("tinycss2"):
             return by_debian(self, "tinycss2", "rules of printed sheets beside tinycss2")
         source = Flat(77)
-        rows, failures, left_out = 0, [], 0
-        for text in [source.sheet() for _ in self.texts]:
-            due = bare_rules(text)
-            for printed in [layout(text) for layout in self.layouts]:
-                found = bare_rules(printed)
-                rows += 1
-                if "{" in f"{due}{found}":
-                    left_out += 1
-                elif found != due:
-                    failures.append(f"{text!r}: {due}, but {found} of {printed!r}")
-        self.assertLessEqual(left_out, 0.01 * rows)
-        self.sweep(rows - left_out, failures)
+        texts = [source.sheet() for _ in self.texts]
+        question = self.question(bare_rules, lambda shown: "{" in shown)
+        left_out = self.against(lambda asked: list(map(bare_rules, asked)), texts, question)
+        self.assertLessEqual(left_out, 0.01 * len(self.layouts) * len(texts))
 
     def test_package(self) -> None:
         """The package reads the same declarations of both texts."""
-        failures = []
-        for text in self.texts:
-            due = declared(text)
-            printed = [layout(text) for layout in self.layouts]
-            failures += [f"{text!r}: {each!r}" for each in printed if declared(each) != due]
-        self.sweep(len(self.layouts) * len(self.texts), failures)
+        self.against(lambda texts: list(map(declared, texts)), self.texts, self.question(declared))
 
     def test_again(self) -> None:
         """A printed text is printed as it is, and most texts are printed otherwise."""

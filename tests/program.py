@@ -274,6 +274,46 @@ TREES = [
     # A field that ends in a carriage return.
     ("0\tdiv\r\n1\tp\r\n", 0, 2, ": lines end in CR LF; the CR belongs to the last field"),
 ]
+# A page, the tree that it has, and the warnings.
+PAGES: Sequence[Tuple[bytes, str, List[str]]] = [
+    (
+        b"<!doctype html><DIV ID=x><p>a<p class='b c'>d<br><img alt>e</div>",
+        "0\tdiv\tid=x\n1\tp\n1\tp\tclass=b c\n2\tbr\n2\timg\talt=\n",
+        [],
+    ),
+    (b"<ul>\n <li>a<li>b</ul><p a=1 A=2>", "0\tul\n1\tli\n1\tli\n0\tp\ta=1\n", []),
+    (
+        b"<a>\n<b title='c\td\r\n e' f=g>",
+        "0\ta\n1\tb\ttitle=c d  e\tf=g\n",
+        [":2:1: 'b': a TAB or newline in 'title' is written as a space"],
+    ),
+    (b"\xef\xbb\xbf<a>", "0\ta\n", []),
+    (b"", "", []),
+    (b"text <head", "", []),
+    (b"<x-html>", "0\tx-html\n", []),
+    # A whole page, with what it leaves out.
+    (b"<!-- <HEAD> --><p>", "0\thtml\n1\thead\n1\tbody\n2\tp\n", []),
+    (
+        b"<html a=1><p><html a=2 b='\t'><body c=3><body c=4 d>",
+        "0\thtml\ta=1\tb= \n1\thead\n1\tbody\tc=3\td=\n2\tp\n",
+        [":1:1: 'html': a TAB or newline in 'b' is written as a space"],
+    ),
+    (
+        b"<p><body b='&#9;'>",
+        "0\thtml\n1\thead\n1\tbody\tb= \n2\tp\n",
+        [": 'body': a TAB or newline in 'b' is written as a space"],
+    ),
+    # References, elements that are moved, reopened or left out, and names with capitals.
+    (b"<i a='&lt;&amp;x&copy=&quot;'>", '0\ti\ta=<&x&copy="\n', []),
+    (b"<table><tr><td><b><tr><i>", "0\ti\n0\ttable\n1\ttbody\n2\ttr\n3\ttd\n4\tb\n2\ttr\n", []),
+    (b"<b c=d>e<p>f</b>g", "0\tb\tc=d\n0\tp\n1\tb\tc=d\n", []),
+    (b"<template><p></template><q>", "0\ttemplate\n0\tq\n", []),
+    (b"<SVG VIEWBOX=1><CLIPPATH><A>", "0\tsvg\tviewBox=1\n1\tclipPath\n2\ta\n", []),
+    (b"<math DEFINITIONURL=1><Mi>", "0\tmath\tdefinitionURL=1\n1\tmi\n", []),
+    (b"<noscript><u></noscript>", "0\tnoscript\n1\tu\n", []),
+    ("<é É='ü'>".encode(), "", []),
+    ("<xÉ É='ü'>".encode(), "0\txÉ\tÉ=ü\n", []),
+]
 # Words that the program does not know.
 UNKNOWN = [
     ["select", "a"],
@@ -390,6 +430,28 @@ def faults(err: bytes) -> Tuple[List[str], List[str]]:
 def cut(out: Optional[bytes]) -> Optional[bytes]:
     """The beginning of a large output, to be shown."""
     return out if out is None or len(out) < 1000 else out[:1000] + b" .."
+
+
+def quoted(value: str) -> str:
+    """The value of an attribute selector, in quotes that it has not."""
+    return f'"{value}"' if "'" in value else f"'{value}'"
+
+
+def sheet_of(tree: str) -> str:
+    """A sheet whose rules tell the elements of a tree from those of another: by their names and attributes, and each
+    by what is above it and before it."""
+    rows = [line.split("\t") for line in tree.splitlines()]
+    parts = {
+        f"[{key}={quoted(value)}]"
+        for row in rows
+        for key, _, value in (it.partition("=") for it in row[2:])
+    }
+    names = {row[1] for row in rows}
+    selectors = [*names, *parts, ":first-child"]
+    selectors += [f"{one}{by}{two}" for one in names for two in names for by in (" > ", " + ")]
+    return "".join(
+        f"{it} {{ a:b }}\n" for it in sorted(selectors) if '"' not in it or "'" not in it
+    )
 
 
 class Program(Case):
@@ -605,6 +667,31 @@ class Mistakes(Program):
             lines = ["text.tree" + warning] + last
             self.says(["match", "page.css", "text.tree"], b"", *wanted, lines)
             self.says(["style", "page.css", "text.tree", "c"], b"", *wanted, lines)
+
+    def test_pages(self) -> None:
+        """A page answers as its tree, and to any change of a line another way."""
+        for data, tree, warnings in PAGES:
+            self.put("tree.css", sheet_of(tree).encode())
+            self.put("text.tree", tree.encode())
+            _, wanted, _ = self.ends(["match", "tree.css", "text.tree"], b"", {})
+            for name in ("text.html", "text.htm"):
+                self.put(name, data)
+                lines = [name + it for it in warnings]
+                self.says(["match", "tree.css", name], b"", 0, (wanted or b"").decode(), lines)
+            self.put("text.html.tree", data)
+            self.assertEqual(
+                self.ends(["match", "page.css", "text.html.tree"], b"", {})[0], bool(data)
+            )
+
+    def test_nested_pages(self) -> None:
+        """A page whose elements are out of proportion is not read, and a deep one is."""
+        self.put("deep.html", b"<p><b title=" + b"x" * 20_000 + b">" + b"<p>x" * 20_000)
+        reason = "elements are nested in a way that takes time or elements out of proportion"
+        lines = [f"deep.html: {reason}", "cssq: cannot read deep.html"]
+        self.says(["match", "page.css", "deep.html"], b"", 4, "", lines)
+        self.put("deep.html", b"<div>" * (MANY // 5))
+        wanted = "".join(f"{number}:\n" for number in range(1, MANY // 5 + 1))
+        self.says(["match", "page.css", "deep.html"], b"", 0, wanted, [])
 
     def test_unknown_words(self) -> None:
         for words in UNKNOWN:

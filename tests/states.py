@@ -17,7 +17,7 @@ import random
 import re
 import shutil
 from contextlib import redirect_stdout
-from typing import Any, Callable, Dict, List, Sequence, Set, Tuple
+from typing import Any, Callable, Dict, Iterator, List, Optional, Sequence, Set
 
 from tests import browser
 from tests.common import Case, browser_answers, count, package
@@ -292,7 +292,7 @@ class States(Browser):
     def test_pages(self) -> None:
         """Nothing of them changes, in any state."""
         source = Source(int(os.environ.get("SEED", 1)))
-        pages = [source.page() for _ in range(count(400))]
+        pages = [source.page() for _ in range(count(200))]
         self.compare(pages, {})
         # What is left where nothing is made important is much more.
         left = sum(map(has_left, pages))
@@ -301,12 +301,12 @@ class States(Browser):
     def test_pages_without_importance(self) -> None:
         """Nor where nothing is made important."""
         source = Source(int(os.environ.get("SEED", 1)))
-        self.compare([source.page() for _ in range(count(100))], {"important": False})
+        self.compare([source.page() for _ in range(count(50))], {"important": False})
 
     def test_drawings(self) -> None:
         """Nor in drawings, where attributes are written in place of styles."""
         source = Drawings(int(os.environ.get("SEED", 1)))
-        pages = [source.page() for _ in range(count(200))]
+        pages = [source.page() for _ in range(count(100))]
         options: Dict[str, Any] = {"as_attributes": True, "ignore": ".b.a"}
         written = sum(simplecss.inline(each, **options).count(" stroke=") for each in pages)
         self.assertGreater(written, len(pages) // 10)
@@ -314,16 +314,22 @@ class States(Browser):
 
     def compare(self, pages: Sequence[str], options: Dict[str, Any]) -> None:
         """Compares pages before and after."""
-        failures: List[str] = []
-        for first in range(0, len(pages), RUN):
-            work: List[Tuple[int, str, str]] = []
-            for number, page in enumerate(pages[first : first + RUN], first):
-                after = simplecss.inline(page, **options)
-                work.append((number, with_states(page), with_states(after)))
-            answer = browser_answers(SCRIPT, work)
-            if answer is None or answer[0] != len(work):
-                self.fail(f"the browser did not answer on pages from {first} on")
-            for number, how in answer[1]:
-                after = simplecss.inline(pages[number], **options)
-                failures.append(f"page {number}: {how}\n  {pages[number]}\n  {after}")
-        self.sweep(len(pages), failures)
+
+        def browser(pages: List[str]) -> List[Any]:
+            found: List[Any] = [None] * len(pages)
+            for first in range(0, len(pages), RUN):
+                work = [
+                    (number, with_states(page), with_states(simplecss.inline(page, **options)))
+                    for number, page in enumerate(pages[first : first + RUN], first)
+                ]
+                answer = browser_answers(SCRIPT, work)
+                if answer is None or answer[0] != len(work):
+                    self.fail(f"the browser did not answer on pages from {first} on")
+                for number, how in answer[1]:
+                    found[number] = how
+            return found
+
+        def question(page: str, how: Any) -> Iterator[Optional[str]]:
+            yield how and f"{how}\n  {page}\n  {simplecss.inline(page, **options)}"
+
+        self.against(browser, pages, question)

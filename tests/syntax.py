@@ -6,21 +6,21 @@ what is missing is left out. The texts are equal in each run.
 """
 from __future__ import annotations
 
-import json
 import random
 import re
 import subprocess
-import unittest
-from typing import Any, Iterator, List, Optional, Sequence, Tuple
+from functools import partial
+from typing import Any, Callable, Dict, Iterator, List, Optional, Sequence, Tuple
 
 from tests.common import (
-    DEBIAN,
+    LEFT_OUT,
     Case,
     browser_answers,
     count,
-    has_modules,
+    debian_answers,
     program,
     real_sheets,
+    row,
     sheets_folder,
 )
 
@@ -140,61 +140,6 @@ ESCAPES = (
     ":b;", ":b;c",
 )
 # fmt: on
-
-# Declarations, and their names with the escapes decoded. (tinycss2 keeps surrogates.)
-NAMES = (
-    ("a\\62 c:d", "abc"),
-    ("\\000061b:c", "ab"),
-    ("\\61\r\nb:c", "ab"),
-    ("\\0:b", "\ufffd"),
-    ("\\d800 a:b", "\ufffda"),
-    ("\\dfff:b", "\ufffd"),
-    ("\\110000:b", "\ufffd"),
-    ("\\10ffff:b", "\U0010ffff"),
-    ("\\\xe9:b", "\xe9"),
-    ("\\\\\\::b", "\\:"),
-    ("col\\6fr:b", "color"),
-)
-
-# Texts of declarations, with each declaration that is read: its name, its value, and whether it is
-# important and open.
-DECLARATIONS: Tuple[Tuple[str, List[Declared]], ...] = (
-    ("", []),
-    (";; /**/ ; ;", []),
-    ("a:b; c:d 42!important;\n", [("a", "b", ""), ("c", "d 42", "important")]),
-    ("z;a:b", [("a", "b", "")]),
-    ("z:x!;a:b", [("a", "b", "")]),
-    ("a:b; c+:d", [("a", "b", "")]),
-    ("@import 'foo.css'; a:b; @import 'bar.css'", [("a", "b", "")]),
-    ("@media screen { div{;}} a:b;; @media print{div{", [("a", "b", "")]),
-    ("a:f(b;c)", [("a", "f(b;c)", "")]),
-    ("a:[b;c]d;--e:{f;g}", [("a", "[b;c]d", ""), ("--e", "{f;g}", "")]),
-    ("a:[{b}]c", [("a", "[{b}]c", "")]),
-    ("span:hover{color:red}color:blue;a:b", [("a", "b", "")]),
-    ("a:b{c}d:e;f:g", [("f", "g", "")]),
-    ("@media x{a:b}c:d", [("c", "d", "")]),
-    ("a:'b;c'", [("a", "'b;c'", "")]),
-    ("a:'b\nc;d:e", [("d", "e", "")]),
-    ("a:b;c:'d", [("a", "b", ""), ("c", "'d", "open")]),
-    ("a:f(b[c", [("a", "f(b[c", "open")]),
-    ("a:url(b c);d:e", [("d", "e", "")]),
-    ("a:url(b(c);d:e", [("d", "e", "")]),
-    ("a:url( //b/*c*/ );d:e", [("a", "url( //b/*c*/ )", ""), ("d", "e", "")]),
-    ("a:b) c;d:e", [("d", "e", "")]),
-    ("a:b}c;d:e", [("d", "e", "")]),
-    ("a:;b:c", [("b", "c", "")]),
-    ("--a:;b:c", [("--a", "", ""), ("b", "c", "")]),
-    ("*zoom:1;a:b", [("a", "b", "")]),
-    ("a/**/:/**/b/**/!/**/IMPORTANT/**/", [("a", "b", "important")]),
-    ("a\\:b:c", [("a\\:b", "c", "")]),
-    ("a:b\\;c;d:e", [("a", "b\\;c", ""), ("d", "e", "")]),
-    ("a:b\\\n;c:d", [("a", "b\\\n", ""), ("c", "d", "")]),
-    ("a:b!imp\\6f rtant;c:d!importan\\74", [("a", "b", "important"), ("c", "d", "important")]),
-    ("a:b!\\69\\6dportant;c:d!import\\61", [("a", "b", "important")]),
-    ("a:/*b;c", []),
-    ("a:b/*c", [("a", "b", "")]),
-    ("1a:b;-1:c;-a:d;--:e", [("-a", "d", ""), ("--", "e", "")]),
-)
 
 # Texts of blocks, in which rules may be, with the same (CSS Syntax 3, editor's draft, "consume a
 # block's contents").
@@ -703,43 +648,24 @@ def one_blank(text: str) -> str:
     return re.sub(r"(\\[0-9a-f]+ )|(?: |/\*.*?\*/)+", shortened, text)
 
 
-def compared(what: str, texts: Sequence[str]) -> Iterator[Tuple[Any, Any]]:
-    """What tinycss2 reads of each text, and what the program does, in the same form."""
-    read = {
-        "declarations": declarations_of,
-        "names": names_of,
-        "statements": statements_of,
-        "rules": rules_of,
-    }[what]
-    work = {"what": what, "texts": texts, "found": list(read(texts))}
-    reply = subprocess.run(
-        [DEBIAN, "-c", THEIRS],
-        input=json.dumps(work),
-        stdout=subprocess.PIPE,
-        text=True,
-        check=True,
-    ).stdout
-    return zip(*json.loads(reply))
+# What the program reads, by the word for it.
+READERS: Dict[str, Callable[[Sequence[str]], Iterator[List[Any]]]] = {
+    "declarations": declarations_of,
+    "names": names_of,
+    "statements": statements_of,
+    "rules": rules_of,
+}
+
+
+def theirs(what: str, texts: Sequence[str], found: Sequence[Any]) -> Optional[Any]:
+    """What tinycss2 reads of each text, and what was found, in the same form; None if it is missing."""
+    return debian_answers(THEIRS, {"what": what, "texts": texts, "found": found}, "tinycss2")
 
 
 def escaped_in_bad_url(text: str) -> bool:
     """Whether tinycss2 may misread a bad address: it takes the second of two backslashes before a
     parenthesis for an escape."""
     return "\\\\" in text and "url(" in text.lower()
-
-
-def theirs(texts: Sequence[str]) -> List[Any]:
-    """The declarations that tinycss2 reads of each text."""
-    work = {"what": "declarations", "texts": texts, "found": [[] for _ in texts]}
-    reply = subprocess.run(
-        [DEBIAN, "-c", THEIRS],
-        input=json.dumps(work),
-        stdout=subprocess.PIPE,
-        text=True,
-        check=True,
-    ).stdout
-    found: List[Any] = json.loads(reply)[0]
-    return found
 
 
 def without_ends(found: Any) -> Any:
@@ -770,9 +696,6 @@ class Tables(Case):
         for (text, wanted), found in zip(table, read):
             with self.subTest(text=text):
                 self.assertEqual(found, wanted)
-
-    def test_declarations(self) -> None:
-        self.check(DECLARATIONS, declarations_of([text for text, _ in DECLARATIONS]))
 
     def test_blocks(self) -> None:
         self.check(BLOCKS_READ, block_declarations_of([text for text, _ in BLOCKS_READ]))
@@ -805,13 +728,6 @@ class Tables(Case):
     def test_statements(self) -> None:
         self.check(STATEMENTS, statements_of([text for text, _ in STATEMENTS]))
 
-    def test_names(self) -> None:
-        read = names_of([text for text, _ in NAMES])
-        self.check(
-            [(text, [name]) for text, name in NAMES],
-            ([item[0] for item in items] for items in read),
-        )
-
     def test_placed(self) -> None:
         """The declarations of each rule set of a sheet."""
         for (text, wanted), rules in zip(PLACED, rules_of([text for text, _ in PLACED])):
@@ -837,28 +753,32 @@ class Tables(Case):
 class Soupsieve(Case):
     def test_printed_selectors(self) -> None:
         """A selector finds what its printed text finds, where the library reads it."""
-        if not has_modules(DEBIAN, "soupsieve", "bs4", "html5lib"):
-            self.skipTest(
-                "random selectors beside soupsieve: python3-soupsieve or python3-html5lib is"
-                " missing"
-            )
         texts = random_texts(SELECTOR_PIECES, count(4000), 3, ("",))
         read = (item for items in selectors_of([text + "{}" for text in texts]) for item in items)
         pairs = sorted({(one_blank(item[0]), item[1]) for item in read if item[1] and not item[2]})
-        work = json.dumps({"page": PAGE, "selectors": pairs})
-        words = [DEBIAN, "-c", FINDS]
-        reply = subprocess.run(
-            words, input=work, stdout=subprocess.PIPE, text=True, check=True
-        ).stdout
-        failures = [
-            f"{text!r} finds others than {printed!r}"
-            for (text, printed), equal in zip(pairs, json.loads(reply))
-            if not equal
-        ]
-        self.sweep(len(pairs), failures)
+
+        def soup(pairs: List[Any]) -> Optional[List[bool]]:
+            work = {"page": PAGE, "selectors": pairs}
+            return debian_answers(FINDS, work, "soupsieve", "bs4", "html5lib")
+
+        def question(pair: Any, equal: bool) -> Iterator[Optional[str]]:
+            yield None if equal else f"{pair[0]!r} finds others than {pair[1]!r}"
+
+        missing = (
+            "random selectors beside soupsieve: python3-soupsieve or python3-html5lib is missing"
+        )
+        self.against(soup, pairs, question, missing)
+
+
+def kept(one: Any, answers: Any) -> Iterator[Optional[str]]:
+    """Whether a browser keeps of a text what it keeps of what the program has of it."""
+    first, second = ((each or "").rstrip("; ") for each in answers)
+    yield row(one, second, first)
 
 
 class Browser(Case):
+    missing = "random blocks beside chromium, which is missing or does not answer"
+
     def test_style_attributes(self) -> None:
         """What a browser keeps of style attributes, and of what is printed of these. It keeps a
         custom property that is open at the end as it is written."""
@@ -868,101 +788,76 @@ class Browser(Case):
             for text, found in zip(texts, declarations_of(texts))
             if not any(one[0].startswith("--") and "open" in one[2] for one in found)
         ]
-        printed = printed_of(texts)
-        answers = browser_answers(STYLES, list(zip(texts, printed)))
-        if answers is None:
-            self.skipTest(
-                "printed declarations beside chromium, which is missing or does not answer"
-            )
-        failures = [
-            f"{text!r}: chromium keeps {kept!r}, and of {shown!r} {other!r}"
-            for text, shown, (kept, other) in zip(texts, printed, answers)
-            if kept != other
-        ]
-        self.sweep(len(texts), failures)
+
+        def question(one: Any, answers: Any) -> Iterator[Optional[str]]:
+            yield row(one, *reversed(answers))
+
+        printed = zip(texts, printed_of(texts))
+        self.against(partial(browser_answers, STYLES), printed, question, self.missing)
 
     def test_group_rules(self) -> None:
         """Which declarations a browser keeps of a block with group rules in it, and in which order."""
         texts = random_texts(GROUPED, 3000, 11, ("a{", "a{color:red;", "a{p{", "a{@media all{"))
         texts = [text + "}d{color:red}" for text in texts]
-        found = [
+        found = (
             [block for selector, _, block, _ in rules if selector == "a"]
             for rules in fields_of(f"order {10**6}", texts)
-        ]
-        answers = browser_answers(STRETCHES, list(zip(texts, found)))
-        if answers is None:
-            self.skipTest("random blocks beside chromium, which is missing or does not answer")
-        failures = [
-            f"{text!r}: chromium keeps {theirs!r}, and of {own!r} {ours!r}"
-            for text, own, (theirs, ours) in zip(texts, found, answers)
-            if (theirs or "").rstrip("; ") != ours.rstrip("; ")
-        ]
-        self.sweep(len(texts), failures)
+        )
+        self.against(partial(browser_answers, STRETCHES), zip(texts, found), kept, self.missing)
 
     def test_blocks(self) -> None:
         """Which declarations a browser keeps of a block with rules in it."""
         texts = random_texts(BLOCK, 3000, 7, ("a{", "a{color:red;", "a{p{"))
         texts = [text + "}d{color:red}" for text in texts]
-        found = first_declarations(texts)
-        answers = browser_answers(BLOCKS, list(zip(texts, found)))
-        if answers is None:
-            self.skipTest("random blocks beside chromium, which is missing or does not answer")
-        failures = [
-            f"{text!r}: chromium keeps {theirs!r}, and of {own!r} {ours!r}"
-            for text, own, (theirs, ours) in zip(texts, found, answers)
-            if (theirs or "").rstrip("; ") != (ours or "").rstrip("; ")
-        ]
-        self.sweep(len(texts), failures)
+        found = zip(texts, first_declarations(texts))
+        self.against(partial(browser_answers, BLOCKS), found, kept, self.missing)
 
 
-@unittest.skipUnless(
-    has_modules(DEBIAN, "tinycss2"),
-    "random texts and real sheets beside tinycss2: python3-tinycss2 is missing",
-)
 class Tinycss2(Case):
-    """What is read beside tinycss2."""
+    """What is read beside tinycss2. It misreads two backslashes in an url."""
 
-    def beside(self, what: str, texts: Sequence[str], kind: str) -> None:
+    missing = "random texts and real sheets beside tinycss2: python3-tinycss2 is missing"
+
+    def beside(self, what: str, texts: Sequence[str]) -> None:
         """Compares what is read of each text."""
-        left_out = items = 0
-        failures = []
-        for text, (wanted, ours) in zip(texts, compared(what, texts)):
-            items += len(wanted)
-            if wanted != ours and escaped_in_bad_url(text):
-                left_out += 1
-            elif wanted != ours:
-                shown = f"tinycss2 has {str(wanted)[:300]}, and not {str(ours)[:300]}"
-                failures.append(f"{what} of {text[:200]!r}: {shown}")
-        print(
-            f"{len(texts)} {kind}: {items} {what} compared; {left_out} left out: two backslashes in"
-            " an url"
-        )
-        self.sweep(len(texts) - left_out, failures)
+
+        def judge(texts: List[str]) -> Optional[List[Any]]:
+            found = theirs(what, texts, list(READERS[what](texts)))
+            return found and list(zip(*found))
+
+        def question(text: str, answers: Any) -> Iterator[Optional[str]]:
+            wanted, ours = answers
+            is_odd = wanted != ours and escaped_in_bad_url(text)
+            yield LEFT_OUT if is_odd else row(f"{what} of {text[:200]!r}", ours, wanted)
+
+        self.against(judge, texts, question, self.missing)
 
     def test_declarations(self) -> None:
         """Without braces: tinycss2 reads no rules among declarations."""
         texts = random_texts(BRACELESS, count(4000), 1, ("", "a:", "a:", "--x:", "a:b;c:"))
-        self.beside("declarations", texts, "random texts")
+        self.beside("declarations", texts)
 
     def test_printed(self) -> None:
         """What tinycss2 reads of texts, and of what is printed of their declarations."""
         texts = random_texts(BRACELESS, count(4000), 1, ("", "a:", "a:", "--x:", "a:b;c:"))
-        failures = []
-        total = 0
-        for text, read, other in zip(texts, theirs(texts), theirs(printed_of(texts))):
-            if not escaped_in_bad_url(text):
-                total += 1
-                if without_ends(read) != without_ends(other):
-                    failures.append(f"printed of {text!r}: tinycss2 has {other}, and not {read}")
-        self.sweep(total, failures)
+
+        def judge(texts: List[str]) -> Optional[List[Any]]:
+            both = [theirs("declarations", each, []) for each in (texts, printed_of(texts))]
+            return None if None in both else list(zip(*(each[0] for each in both if each)))
+
+        def question(text: str, answers: Any) -> Iterator[Optional[str]]:
+            first, second = map(without_ends, answers)
+            yield LEFT_OUT if escaped_in_bad_url(text) else row(f"of {text!r}", second, first)
+
+        self.against(judge, texts, question, self.missing)
 
     def test_names(self) -> None:
-        self.beside("names", random_texts(ESCAPES, count(4000), 4, ("", "a", "--")), "random texts")
+        self.beside("names", random_texts(ESCAPES, count(4000), 4, ("", "a", "--")))
 
     def test_statements(self) -> None:
-        self.beside("statements", random_texts(MORE, count(4000), 2, ("",)), "random texts")
+        self.beside("statements", random_texts(MORE, count(4000), 2, ("",)))
 
     def test_real_sheets(self) -> None:
         sheets = real_sheets(sheets_folder())
         for what in ("statements", "rules"):
-            self.beside(what, sheets, "real sheets")
+            self.beside(what, sheets)

@@ -8,14 +8,12 @@ string and U+FFFD elsewhere.
 """
 from __future__ import annotations
 
-import json
 import random
 import re
-import subprocess
-import unittest
-from typing import Any, List, Sequence
+from functools import partial
+from typing import Any, Iterator, List, Optional, Sequence
 
-from tests.common import DEBIAN, Case, browser_answers, count, has_modules, package
+from tests.common import LEFT_OUT, Case, browser_answers, count, debian_answers, package, row
 from tests.syntax import ESCAPES, MORE, escaped_in_bad_url, random_texts
 
 package()
@@ -86,14 +84,9 @@ document.getElementById("o").textContent = "ANS" + "WER" + text + "EN" + "D";
 </script>"""
 
 
-def theirs(texts: Sequence[str]) -> List[Any]:
-    """What tinycss2 reads of each text."""
-    words = [DEBIAN, "-c", THEIRS]
-    done = subprocess.run(
-        words, input=json.dumps(texts), stdout=subprocess.PIPE, text=True, check=True
-    )
-    found: List[Any] = json.loads(done.stdout)
-    return found
+def theirs(texts: Sequence[str]) -> Optional[List[Any]]:
+    """What tinycss2 reads of each text, or None if it is missing."""
+    return debian_answers(THEIRS, texts, "tinycss2")
 
 
 def is_left_out(text: str) -> bool:
@@ -169,26 +162,22 @@ class Places(Case):
         self.sweep(len(texts), failures)
 
 
-@unittest.skipUnless(
-    has_modules(DEBIAN, "tinycss2"), "tokens beside tinycss2: python3-tinycss2 is missing"
-)
 class Tinycss2(Case):
     """Tokens, and what is quoted, beside tinycss2."""
 
+    missing = "tokens beside tinycss2: python3-tinycss2 is missing"
+
     def beside(self, texts: Sequence[str]) -> None:
         """Compares the tokens of texts."""
-        failures = []
-        tried = 0
-        for text, wanted in zip(texts, theirs(texts)):
+        ends = (["error", "eof-in-string"], ["error", "eof-in-url"])
+
+        def question(text: str, wanted: Any) -> Iterator[Optional[str]]:
             if is_left_out(text) or any(each[0] == "unicode-range" for each in wanted):
-                continue
-            tried += 1
-            wanted = [each for each in wanted if each not in (["error", "eof-in-string"],)]
-            wanted = [each for each in wanted if each not in (["error", "eof-in-url"],)]
-            found = ours(text)
-            if wanted != found:
-                failures.append(f"{text!r}: tinycss2 has {wanted}, and not {found}")
-        self.sweep(tried, failures)
+                yield LEFT_OUT
+            else:
+                yield row(repr(text), ours(text), [each for each in wanted if each not in ends])
+
+        self.against(theirs, texts, question, self.missing)
 
     def test_rare(self) -> None:
         self.beside(random_texts(RARE, count(4000), 12, ("", "a", "1", "-")))
@@ -198,33 +187,31 @@ class Tinycss2(Case):
 
     def test_quote(self) -> None:
         """What is quoted reads as the string, and what is escaped as the name."""
-        names = random_names(count(4000), 14)
-        failures = []
-        written = [[simplecss.quote(each), simplecss.escape(each)] for each in names]
-        strings, idents = theirs([one for one, _ in written]), theirs([two for _, two in written])
-        for name, string, ident in zip(names, strings, idents):
+
+        def read(names: List[str]) -> Optional[List[Any]]:
+            strings = theirs([simplecss.quote(each) for each in names])
+            return strings and list(zip(strings, theirs(list(map(simplecss.escape, names))) or ()))
+
+        def question(name: str, found: Any) -> Iterator[Optional[str]]:
             plain = name.replace("\0", "\ufffd")
             wanted = [["ident", plain]] if name else []
-            if string != [["string", plain]] or ident != wanted:
-                failures.append(f"{name!r}: tinycss2 has {string} and {ident}")
-        self.sweep(len(names), failures)
+            yield row(repr(name), found, ([["string", plain]], wanted))
+
+        self.against(read, random_names(count(4000), 14), question, self.missing)
 
 
 class Browser(Case):
     """`escape` beside a browser."""
 
     def test_escape(self) -> None:
-        names = random_names(count(4000), 15)
-        answers = browser_answers(ESCAPED, names)
-        if answers is None:
-            self.skipTest("`escape` beside a browser: chromium is missing")
-        escaped = ("".join(map(chr, codes)) for codes in answers)
-        failures = [
-            f"{name!r}: the browser has {wanted!r}, and not {simplecss.escape(name)!r}"
-            for name, wanted in zip(names, escaped)
-            if wanted != simplecss.escape(name)
-        ]
-        self.sweep(len(names), failures)
+        def question(name: str, codes: Any) -> Iterator[Optional[str]]:
+            yield row(repr(name), simplecss.escape(name), "".join(map(chr, codes)))
+
+        names, missing = (
+            random_names(count(4000), 15),
+            "`escape` beside a browser: chromium is missing",
+        )
+        self.against(partial(browser_answers, ESCAPED), names, question, missing)
 
     def test_lone_surrogates(self) -> None:
         """They are in no text of UTF-8."""

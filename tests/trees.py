@@ -12,12 +12,12 @@ import glob
 import itertools
 import os
 import re
-from typing import Dict, Iterator, List, NamedTuple, Optional, Sequence, Tuple
+from typing import Callable, Dict, Iterator, List, NamedTuple, Optional, Sequence, Tuple
 
 from tests.common import TOP, Case, package
 
 package()
-from simplecss import Tree, TreeError  # noqa: E402
+from simplecss import LimitError, Tree  # noqa: E402
 from simplecss._elements import Elements  # noqa: E402
 from simplecss._tree import elements_of  # noqa: E402
 from tests import judges_tests  # noqa: E402
@@ -27,15 +27,9 @@ FILES = "sources/html5lib/html5lib*/html5lib/tests/testdata/tree-construction/*.
 # How many tests are judged at least.
 LEAST = 1300
 # The tests that do not hold, by the front of their text, and why.
+IN_SELECT = "a `select` may have any elements (HTML Standard of 2025)"
 DIFFERENCES: Dict[str, Sequence[str]] = {
-    "docs/DIFFERENCES.md: a page with `frameset` has no text": (
-        "<!doctype html><html><frameset></frameset></html>  ",
-        "<!DOCTYPE html><frameset> te st",
-        "<!DOCTYPE html><frameset></frameset> te st",
-        "<frameset></frameset>\n",
-        "<html><frameset></frameset></html> ",
-    ),
-    "a `select` may have any elements (HTML Standard of 2025)": (
+    IN_SELECT: (
         "<select><b><option>",
         "<!DOCTYPE html><body><select><svg>",
         "<!DOCTYPE html><body><select><math>",
@@ -49,12 +43,10 @@ DIFFERENCES: Dict[str, Sequence[str]] = {
         "<!doctype html><table><select><plaintext>",
         "<!DOCTYPE html><select><menuitem>",
         "<select><keygen>",
-    ),
+    )
 }
 # The namespaces of attributes.
 SPACED = re.compile("^(xlink|xml|xmlns) ")
-# A NUL stays in a text, and `inline` refuses a page with one (docs/DIFFERENCES.md).
-NUL = "\0"
 
 # An element or a text, with its depth.
 Line = Tuple[int, str]
@@ -142,7 +134,7 @@ def found_of(tree: Tree) -> List[Line]:
     for index in range(len(elements) + 1):
         while at < len(texts) and texts[at][0] == index:
             owner = texts[at][1]
-            text = elements.text_at(texts[at][2])
+            text = elements.texts[texts[at][2]]
             if text:
                 add(found, elements.depths[owner] + 1 if owner >= 0 else 0, f'"{text}"')
             at += 1
@@ -166,12 +158,30 @@ def difference(test: Test) -> str:
     """Returns how the tree of a test differs from what it expects, or nothing."""
     try:
         found = found_of(Tree.from_html(test.data, is_part=test.context == "body"))
-    except TreeError as error:
+    except LimitError as error:
         return str(error)
     for ours, theirs in itertools.zip_longest(found, wanted_of(test.document)):
         if ours != theirs:
             return f"{ours}, and not {theirs}"
     return ""
+
+
+def failures_of(
+    every: Sequence[Test],
+    differences: Dict[str, Sequence[str]],
+    difference_of: Callable[[Test], str],
+) -> Iterator[str]:
+    """Yields the tests that do not hold and are not known to, and what is known and holds."""
+    known = {front for fronts in differences.values() for front in fronts}
+    unused = set(known)
+    for test in every:
+        how = difference_of(test)
+        named = {front for front in known if test.data.startswith(front)}
+        unused -= named if how else set()
+        if how and not named:
+            yield f"{test.file}: {test.data!r}: {how}"
+    for front in sorted(unused):
+        yield f"{front!r} is no difference any more"
 
 
 class Trees(Case):
@@ -185,16 +195,8 @@ class Trees(Case):
             test
             for path in sorted(glob.glob(os.path.join(folder, FILES)))
             for test in tests_of(path)
-            if test.context in ("", "body") and not test.has_scripts and NUL not in test.data
+            if test.context in ("", "body") and not test.has_scripts
         ]
-        known = {front: why for why, fronts in DIFFERENCES.items() for front in fronts}
-        failures, unused = [], set(known)
-        for test in every:
-            how = difference(test)
-            named = {front for front in known if test.data.startswith(front)}
-            unused -= named if how else set()
-            if how and not named:
-                failures.append(f"{test.file}: {test.data!r}: {how}")
-        failures += [f"{front!r} is no difference any more" for front in sorted(unused)]
+        failures = list(failures_of(every, DIFFERENCES, difference))
         self.sweep(len(every), failures)
         self.assertGreaterEqual(len(every), LEAST)

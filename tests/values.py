@@ -10,12 +10,13 @@ from __future__ import annotations
 
 import importlib.util
 import random
-from typing import Any, Dict, Iterator, List, Optional, Sequence, Set, Tuple, Union
+from typing import Any, Callable, Dict, Iterator, List, Optional, Sequence, Set, Tuple, Union
 
-from tests.common import Case, browser_answers, by_debian, count, package
+from tests.common import Case, browser_answers, by_debian, count, package, row
 
 NAMES = ("--a", "--b", "--c", "--d", "--e", "--A", "--x1", "--é")
 RESULT = "--result"
+SHOWN = (*NAMES, RESULT)
 TOKENS = (
     'x|y-1|-|1|2px|.5|+3|-4|1e3|5%|#h|#|@k|@|+|.|/|<|||=|*|~|>|$|"s"|\'t u\'|url(q)|url( "z" )'
     '|:|"\\""|é|50|e5|calc|foo|initial'
@@ -88,9 +89,48 @@ function longhands(name) {
     style.cssText = name + ": inherit";
     return [...style];
 }
-const answers = {sets: input.sets.map(computed), longhands: input.shorthands.map(longhands),
+const answers = {sets: input.sets.map(computed), shorthands: input.shorthands.map(longhands),
     registered: input.registered.map(registered)};
 document.documentElement.textContent = "ANSWER" + JSON.stringify(answers) + "END";
+</script>
+"""
+
+# Values of which each property takes some.
+LOGICAL_VALUES = (
+    ("7px", "9px"),
+    ("red", "blue"),
+    ("dotted", "dashed"),
+    ("scroll", "hidden"),
+    ("contain", "none"),
+    ("squircle", "bevel"),
+    ("7px 7px", "9px 9px"),
+    ("auto 7px", "auto 9px"),
+)
+# The pairs of names of which each sets what both do, and the one that is declared later.
+LOGICAL = """
+<!DOCTYPE html><meta charset=utf-8><body><script id=input type="application/json">%s</script><div id=made></div>
+<script>
+const input = JSON.parse(document.getElementById("input").textContent);
+const made = document.getElementById("made");
+const read = text => {
+    made.setAttribute("style", "position: absolute; border: 3px solid black; overflow: clip; " + text);
+    const style = getComputedStyle(made);
+    return Object.fromEntries(input.names.map(name => [name, style.getPropertyValue(name)]));
+};
+const first = read(""), found = [];
+for (const name of input.names) {
+    const values = input.values.find(([value]) => CSS.supports(name, value) && read(`${name}: ${value}`)[name] !== first[name]);
+    if (!values) continue;
+    const [one, other] = values;
+    const set = read(`${name}: ${one}`), again = read(`${name}: ${other}`);
+    const those = input.names.filter(each => each !== name && set[each] === set[name] && again[each] === again[name]);
+    for (const each of those) {
+        const mine = read(`${each}: ${one}; ${name}: ${other}`), theirs = read(`${name}: ${one}; ${each}: ${other}`);
+        const isSame = [mine, theirs].every(all => all[name] === again[name] && all[each] === again[name]);
+        if (isSame) found.push([name, each]);
+    }
+}
+document.documentElement.textContent = "ANSWER" + JSON.stringify(found) + "END";
 </script>
 """
 
@@ -291,6 +331,17 @@ def flat(tokens: Sequence[Any]) -> List[Any]:
     return found
 
 
+def browser(kind: str) -> Callable[[List[Any]], Optional[List[Any]]]:
+    """What asks a browser of inputs of a kind."""
+
+    def answers(inputs: List[Any]) -> Optional[List[Any]]:
+        none: Dict[str, List[Any]] = {"sets": [], "shorthands": [], "registered": []}
+        found = browser_answers(PAGE, {**none, "names": SHOWN, kind: inputs})
+        return None if found is None else list(found[kind])
+
+    return answers
+
+
 class Values(Case):
     """Values beside a browser."""
 
@@ -300,26 +351,13 @@ class Values(Case):
         self.simplecss = importlib.import_module("simplecss")
         self.tokens_of = importlib.import_module("simplecss._tokens")
 
-    def answers(
-        self,
-        sets: Sequence[List[Pair]],
-        shorthands: Sequence[str] = (),
-        registered: Sequence[Tuple[str, List[Pair], List[Pair]]] = (),
-    ) -> Any:
-        names = [*NAMES, RESULT]
-        asked = {"sets": sets, "names": names, "shorthands": shorthands, "registered": registered}
-        found = browser_answers(PAGE, asked)
-        if found is None:
-            self.skipTest("no browser answers")
-        return found
-
     def computed(self, pairs: Sequence[Pair]) -> Dict[str, Optional[str]]:
         """Returns the computed values of a set, by the names without escapes."""
         text = ";".join(f"{name}:{value}" for name, value in pairs)
         declared = {
             each.name: each.value
             for each in self.simplecss.declarations(text)
-            if self.simplecss.is_valid_value(each.value)
+            if self.simplecss.has_valid_references(each.value)
         }
         values = self.resolving.computed(list(declared.items()))
         return dict(zip(map(self.tokens_of.decoded, declared), values))
@@ -328,21 +366,18 @@ class Values(Case):
         parse = importlib.import_module("tinycss2").parse_component_value_list
         return flat(parse(value or ""))
 
-    def compare(self, sets: Sequence[List[Pair]]) -> None:
-        """Compares the computed values of sets with a browser's, as tinycss2 reads their tokens."""
+    def test_sets(self) -> None:
+        """The computed values of sets are a browser's, as tinycss2 reads their tokens."""
         if not importlib.util.find_spec("tinycss2"):
             return by_debian(self, "tinycss2", "values beside a browser")
-        failures = []
-        for pairs, values in zip(sets, self.answers(sets)["sets"]):
-            found = self.computed(pairs)
-            for name, value in zip([*NAMES, RESULT], values):
-                if self.tokens(found.get(name)) != self.tokens(value):
-                    failures.append(f"{pairs}: {name} is {found.get(name)!r}, not {value!r}")
-        self.sweep(len(sets), failures)
 
-    def test_sets(self) -> None:
+        def question(pairs: List[Pair], values: Any) -> Iterator[Optional[str]]:
+            computed = self.computed(pairs)
+            found = [self.tokens(computed.get(name)) for name in SHOWN]
+            yield row(pairs, found, list(map(self.tokens, values)))
+
         source = Source(7)
-        self.compare([source.set() for _ in range(count(1000))])
+        self.against(browser("sets"), [source.set() for _ in range(count(1000))], question)
 
     def test_circles(self) -> None:
         """Where a browser and the standard agree, the library says the same, and else one of the two."""
@@ -350,20 +385,26 @@ class Values(Case):
             return by_debian(self, "tinycss2", "circles beside a browser")
         source = Source(8)
         sets = [source.circles() for _ in range(count(1000))]
-        asked = [[(name, written(value)) for name, value in each.items()] for each in sets]
-        failures = []
-        differing = 0
-        for values, pairs, shown in zip(sets, asked, self.answers(asked)["sets"]):
-            browser = dict(zip([*NAMES, RESULT], shown))
-            found, due = self.computed(pairs), by_the_standard(values)
+        differing: List[bool] = []
+
+        def judge(sets: List[Dict[str, Value]]) -> Optional[List[Any]]:
+            return browser("sets")([[(it, written(each[it])) for it in each] for each in sets])
+
+        def question(values: Dict[str, Value], shown: Any) -> Iterator[Optional[str]]:
+            found = self.computed([(name, written(value)) for name, value in values.items()])
+            told, due = dict(zip(SHOWN, shown)), by_the_standard(values)
+            wrong = []
             for name in values:
-                told = [self.tokens(browser[name]), self.tokens(due[name])]
-                differing += told[0] != told[1]
-                if self.tokens(found[name]) not in told:
-                    failures.append(f"{pairs}: {name} is {found[name]!r}, not {browser[name]!r}")
+                both = [self.tokens(told[name]), self.tokens(due[name])]
+                differing.append(both[0] != both[1])
+                wrong += (
+                    [] if self.tokens(found[name]) in both else [(name, found[name], told[name])]
+                )
+            yield row(values, wrong, [])
+
+        self.against(judge, sets, question)
         # They differ on one in a hundred.
-        self.assertLess(differing, 1 + len(sets) / 10)
-        self.sweep(len(sets), failures)
+        self.assertLess(sum(differing), 1 + len(sets) / 10)
 
     def values(self, sheet: str, upper: List[Pair], lower: List[Pair]) -> List[Dict[str, str]]:
         """Returns the values of an element and of one in it, by the names without escapes."""
@@ -382,14 +423,30 @@ class Values(Case):
         shown_by: List[Pair] = [(RESULT, "[var(--a,NO)]")]
         asked = [(rule, shown_by, shown_by) for rule in RULES]
         asked += [source.registered() for _ in range(count(1000))]
-        failures = []
-        for one, shown in zip(asked, self.answers([], registered=asked)["registered"]):
-            for found, values in zip(self.values(*one), shown):
-                # The names that are not declared are in the value of this one.
-                value = dict(zip([*NAMES, RESULT], values))[RESULT]
-                if self.tokens(found.get(RESULT)) != self.tokens(value):
-                    failures.append(f"{one}: {found.get(RESULT)!r}, not {value!r}")
-        self.sweep(len(asked), failures)
+
+        def question(one: Any, shown: Any) -> Iterator[Optional[str]]:
+            found = [self.tokens(each.get(RESULT)) for each in self.values(*one)]
+            # The names that are not declared are in the value of this one.
+            yield row(one, found, [self.tokens(values[SHOWN.index(RESULT)]) for values in shown])
+
+        self.against(browser("registered"), asked, question)
+
+    def test_counterparts(self) -> None:
+        """Of two names the one that is declared later sets what both do, and no other names do so in a browser."""
+        from simplecss._properties import names_setting
+
+        names = self.simplecss.longhands("all")
+        found = browser_answers(LOGICAL, {"names": names, "values": LOGICAL_VALUES})
+        if found is None:
+            self.skipTest("no browser answers")
+        mine = {
+            (name, other)
+            for name in names
+            for other in names_setting(name)
+            if other != name and not self.simplecss.longhands(other)
+        }
+        self.assertEqual(mine, set(map(tuple, found)))
+        self.assertGreater(len(mine), 100)
 
     def test_shorthands(self) -> None:
         """Each shorthand sets what it does in a browser, and each longhand is in its shorthands."""
@@ -401,8 +458,10 @@ class Values(Case):
             }
         )
         names.remove("all")
-        for name, found in zip(names, self.answers([], names)["longhands"]):
-            with self.subTest(name=name):
-                self.assertEqual(sorted(self.simplecss.longhands(name)), sorted(found))
-                for each in found:
-                    self.assertIn(name, self.simplecss.shorthands(each))
+
+        def question(name: str, found: Any) -> Iterator[Optional[str]]:
+            yield row(name, sorted(self.simplecss.longhands(name)), sorted(found)) or row(
+                name, [it for it in found if name not in self.simplecss.shorthands(it)], []
+            )
+
+        self.against(browser("shorthands"), names, question)

@@ -6,6 +6,14 @@ const css = await import(`${folder}/index.mjs`);
 const { items, texts } = JSON.parse(readFileSync(0, 'utf8'));
 const tree = new css.Tree(items);
 
+// A device with none of the usual choices.
+const device = {
+  hover: false, pointer: 'none', deviceWidth: 400, deviceHeight: 9, color: 9, colorIndex: 2, monochrome: 3,
+  colorGamut: 'p3', highDynamicRange: true, grid: true, update: 'slow', scripting: 'initial-only',
+  displayMode: 'standalone', reducedTransparency: true, contrast: 'more', forcedColors: true, anyHover: true,
+  anyPointer: 'coarse fine',
+};
+
 const declared = each => each && [each.name, each.value, each.important];
 const within = each => [each.name, each.prelude];
 
@@ -26,11 +34,13 @@ function sheetOf(text, grammar) {
     sheet.rules.map(each => [
       each.selector, each.specificity, each.declarations.map(declared), each.conditions.map(within), each.pseudoElement,
       each.parents]),
-    sheet.unsupported.map(each => [each.selector, each.declarations.map(declared), each.conditions.map(within)]),
+    sheet.unsupported.map(each => [
+      each.selector, each.declarations.map(declared), each.conditions.map(within), each.parents]),
     sheet.atRules.map(each => [each.name, each.prelude, each.block, each.conditions.map(within)]),
     sheet.skipped.map(each => [each.row, each.column, each.reason, each.text, each.source, ...characters(each)]),
     [...sheet.match(tree).values()],
     [...sheet.match(tree, { media: { width: 375, type: 'print', dark: true } }).values()],
+    [...sheet.match(tree, { media: device }).values()],
     [...sheet.styles(tree, { media: query => query.length % 2 === 0 }).values()].map(each => each.map(declared)),
     [...sheet.style(tree, 'color').values()].map(declared),
   ];
@@ -41,7 +51,7 @@ function answersTo(text, grammar) {
   return [
     found.map(each => [
       each.row, each.column, each.reason, each.text, each.endRow, each.endColumn, each.hint, each.kind, each.message]),
-    css.declarations(text).map(declared),
+    css.declarations(text).map(declared), css.minify(text), css.prettify(text),
     ...sheetOf(text, grammar),
     tried(() => tree.select(text, { grammar }).map(each => each.index)),
     tried(() => {

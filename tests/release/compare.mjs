@@ -4,9 +4,18 @@ import { readFileSync, writeSync } from 'node:fs';
 
 const [folder] = process.argv.slice(2);
 const { Tree } = await import(`${folder}/index.mjs`);
-const { NO_LIMIT, call, sizes } = await import(`${folder}/library.mjs`);
+const { KeptPage, NO_LIMIT, askList, call, joined, provide, sizes } = await import(`${folder}/library.mjs`);
+// The calls are made as they are, and the second module is to be there.
+provide({ second: (await import(`${folder}/second_bytes.mjs`)).default });
 const elements = Tree.elementsOf(new Tree(JSON.parse(readFileSync(process.argv[3], 'utf8'))));
 const most = NO_LIMIT, hasTree = true, isNumbers = true;
+/** The numbers of a list and its printed texts, or nothing of what is no list. */
+const listOf = (text, grammar) =>
+  askList(text, grammar, ask => [ask('numbers', { isNumbers }), ask('text', {})]) ?? [null, null];
+const [grammar, tree] = elements.words('modern'), kept = new KeptPage(tree, grammar);
+// The policy of compare.c.
+const names = joined(['.x', 'color', 'x', 'rgb', 'color', 'hover', 'print']);
+const policy = { arrays: [...names, 2n, 1n, 1n, 1n, 1n, 0n, NO_LIMIT] };
 const input = readFileSync(0);
 for (let at = 0; at < input.length; ) {
   const length = Number(input.readBigUInt64LE(at));
@@ -16,15 +25,19 @@ for (let at = 0; at < input.length; ) {
   const [portNumber, port] = elements.words('simplecss'), modern = elements.words('modern');
   const answers = [
     call('port_sheet', sheet), call('port_selector', [text]), call('port_skipped', [text]),
-    call('list', [text, portNumber], { isNumbers }), call('printed', [text, portNumber]),
+    ...listOf(text, portNumber),
     call('port_rules', sheet), call('port_match', [...sheet, port], { most, hasTree }),
     call('port_styles', [...sheet, port], { most, hasTree }),
     call('read', [text], { most, isNumbers }), call('declarations', [text], { isNumbers }),
     call('imports', [text]), call('contents', [text], { isNumbers }),
+    call('lint', [text, 1n]),
+    call('clean', [text, policy, 0n]), call('clean', [text, policy, 1n]), call('dropped', [text, policy, 0n], { isNumbers }),
+    call('html_encoding', [text, text]),
     call('close', [text]), call('print', [text, 0n]), call('print', [text, 1n]),
     call('escape', [text]), call('quote', [text]), call('decode', [text, 1n]),
-    call('list', [text, modern[0]], { isNumbers }), call('printed', [text, modern[0]]),
+    ...listOf(text, modern[0]),
     call('refusal', [text, ...modern], { hasTree }), call('select', [text, ...modern], { most, hasTree }),
+    kept.select(text, -1, 0, elements.names.length)?.map(index => index + 1),
     call('match_selectors', [text, ends, ...modern], { most, hasTree }),
   ];
   for (const answer of answers) {

@@ -1,8 +1,13 @@
 //! Answers of the module `modern` of the erased crate, for tests/checkout.py. Standard input is a tree and then texts, each a
 //! length of 8 bytes and the bytes. To each text the answers are its declarations, their names, these printed, its rules, what it matches as a
 //! list of selectors, what the index of its rules finds, and the winners of two properties, each with its length first. They are
-//! in the form in which the program `tests_driver` writes them.
-use simplecss::modern::{closed_value, decode, declarations, AtRule, Declaration, Declarations, Document, Item, Selector, Sheet};
+//! in the form in which the program `tests_driver` writes them. A page of elements of another type answers as the document does, and so
+//! does each of these elements, unless it says that it needs a page.
+mod own;
+
+use own::{Own, Row, Rows};
+use simplecss::modern::{closed_value, decode, declarations, AtRule, Declaration, Declarations, Document, Item, NeedsPage};
+use simplecss::modern::{Options, Page, Selector, Sheet};
 use simplecss::tree::Tree;
 use std::fmt::Write as _;
 use std::io::{Read, Write};
@@ -71,7 +76,55 @@ fn rules(sheet: &Sheet) -> String {
     out
 }
 
-fn matched(page: &mut Document, count: usize, text: &str) -> String {
+/// A tree, as a document and as a page of its own elements.
+struct Both<'p, 't> {
+    document: Document<'p, 't>,
+    page: Page<Own<'p, 't>>,
+}
+
+/// What of a text is in no string and no escape.
+fn outside_strings(text: &str) -> String {
+    let (mut out, mut quote, mut rest) = (String::new(), None, text.chars());
+    while let Some(one) = rest.next() {
+        match (one, quote) {
+            ('\\', _) => {
+                rest.next();
+            }
+            (_, Some(open)) if one == open => quote = None,
+            (_, Some(_)) => {}
+            ('"' | '\'', None) => quote = Some(one),
+            _ => out.push(one),
+        }
+    }
+    out
+}
+
+/// Whether a selector has what a single element cannot answer.
+fn is_of_page(selector: &Selector) -> bool {
+    let text = outside_strings(&selector.to_string());
+    text.contains(":has(") || text.contains(" of ")
+}
+
+/// The elements that one of the selectors matches.
+fn selected(both: &mut Both, text: &str) -> Vec<usize> {
+    let list = Selector::parse_list(text).unwrap();
+    let found = both.document.select(&list, usize::MAX).unwrap();
+    assert_eq!(both.page.select(&list, usize::MAX).unwrap(), found, "{text}");
+    for it in list.iter().filter(|it| it.pseudo_element().is_none()) {
+        assert_eq!(it.needs_page(), is_of_page(it), "{text}");
+    }
+    for number in 0..both.page.len() {
+        let own = both.page.element(number).unwrap();
+        let one: Result<Vec<bool>, NeedsPage> = list.iter().map(|it| it.matches(own)).collect();
+        assert_eq!(one.is_err(), list.iter().any(|it| it.needs_page()));
+        if let Ok(matches) = one {
+            assert_eq!(matches.contains(&true), found.contains(&number), "{text}");
+        }
+    }
+    found
+}
+
+fn matched(both: &mut Both, text: &str) -> String {
     let list = match Selector::parse_list(text) {
         Ok(list) => list,
         Err(error) => return format!("refused: {error}"),
@@ -79,38 +132,52 @@ fn matched(page: &mut Document, count: usize, text: &str) -> String {
     let counts = list[0].specificity();
     let mut out = format!("{},{},{}:", counts.ids, counts.classes, counts.names);
     let printed: Vec<String> = list.iter().map(|it| it.to_string()).collect();
-    let asking = page.mark_selectors(list, usize::MAX).unwrap();
-    for number in 0..count {
-        if asking.iter().any(|it| it.matches(&page.node(number).unwrap())) {
-            write!(out, " {number}").unwrap();
-        }
-    }
+    selected(both, text).iter().for_each(|it| write!(out, " {it}").unwrap());
     out + "\x01" + &printed.join(", ")
 }
 
-/// The rules that the index finds for each element, of which those without a pseudo-element match it.
-fn found(page: &Document, count: usize, sheet: &Sheet) -> String {
-    let (mut out, mut index) = (String::new(), sheet.index());
+/// The rules that each element matches, without those that have a pseudo-element.
+fn found(both: &mut Both, sheet: &Sheet) -> String {
     let all: Vec<_> = sheet.rules().collect();
-    for number in 0..count {
-        let node = page.node(number).unwrap();
-        let numbers = index.matching(&node);
-        let matching = |it: &usize| all[*it].matches(&node);
-        assert!((0..all.len()).filter(matching).all(|it| numbers.contains(&it)));
-        let without = numbers.iter().filter(|it| all[**it].pseudo_element().is_none());
-        without.for_each(|it| write!(out, " {it}").unwrap());
+    let (mut out, mut index, mut walk) = (String::new(), sheet.index(), both.page.styles(sheet, usize::MAX).unwrap());
+    assert_eq!(index.is_err(), sheet.needing_page().next().is_some());
+    let mut styles = both.document.styles(sheet, usize::MAX).unwrap();
+    let size = both.page.len();
+    for number in (0..size).map(|it| it * 7 % size) {
+        assert_eq!(walk.matching(number), styles.matching(number));
+    }
+    for number in 0..size {
+        let (own, numbers) = (both.page.element(number).unwrap(), styles.matching(number).to_vec());
+        assert_eq!(walk.matching(number), numbers);
+        if let Ok(index) = &mut index {
+            assert_eq!(index.matching(own), numbers);
+        }
+        let without: Vec<_> = numbers.into_iter().filter(|it| all[*it].pseudo_element().is_none()).collect();
+        for (at, rule) in all.iter().enumerate() {
+            assert_eq!(rule.matches(own).is_err(), rule.needs_page());
+            assert_eq!(rule.matches(own).unwrap_or(without.contains(&at)), without.contains(&at));
+        }
+        without.iter().for_each(|it| write!(out, " {it}").unwrap());
         out.push('\n');
     }
     out
 }
 
-fn winners(page: &Document, count: usize, sheet: &Sheet) -> String {
-    let (mut out, mut styles) = (String::new(), page.styles(sheet));
-    for number in 0..count {
+fn winners(both: &mut Both, sheet: &Sheet) -> String {
+    let (mut out, mut of_page) = (String::new(), both.page.styles(sheet, usize::MAX).unwrap());
+    let mut styles = both.document.styles(sheet, usize::MAX).unwrap();
+    for number in 0..both.page.len() {
         let all: Vec<Declaration> = styles.winners(number, "").iter().map(|it| it.declaration).collect();
         for name in PROPERTIES {
-            let won = sheet.winning(&page.node(number).unwrap(), name);
-            assert_eq!(styles.style(number, "", name).map(|it| it.declaration), won);
+            let won = styles.style(number, "", name);
+            assert_eq!(of_page.style(number, "", name), won);
+            let own = "COLOR: a; --x: b !important";
+            assert_eq!(of_page.style(number, own, name), styles.style(number, own, name));
+            let won = won.map(|it| it.declaration);
+            match sheet.winning(both.page.element(number).unwrap(), name) {
+                Ok(found) => assert_eq!(found, won),
+                Err(NeedsPage) => assert!(sheet.needing_page().next().is_some()),
+            }
             let is_it = |it: &&Declaration| it.name == name || name == "color" && it.name.eq_ignore_ascii_case(name);
             assert_eq!(all.iter().find(is_it), won.as_ref());
             if let Some(it) = won {
@@ -122,30 +189,37 @@ fn winners(page: &Document, count: usize, sheet: &Sheet) -> String {
     out
 }
 
-fn answers(page: &mut Document, count: usize, text: &str) -> [String; 7] {
-    let (mut list, sheet) = (String::new(), Sheet::read(text, holds).unwrap());
+fn answers(both: &mut Both, text: &str) -> [String; 7] {
+    let options = Options { limit: usize::MAX, ..Options::default() };
+    let (mut list, sheet) = (String::new(), Sheet::parse_where(text, &options, holds).unwrap());
     items(&mut list, declarations(text));
-    let matches = matched(page, count, text);
-    page.mark(&sheet, usize::MAX).unwrap();
-    let (index, winners) = (found(page, count, &sheet), winners(page, count, &sheet));
+    let matches = matched(both, text);
+    let (index, winners) = (found(both, &sheet), winners(both, &sheet));
     [list, names(text), printed(text), rules(&sheet), matches, index, winners]
 }
 
-/// Reads a tree as `tests_driver` does. Returns it with the indices of the elements that have a text.
-fn tree(lines: &str) -> (Tree<'_>, Vec<usize>) {
-    let (mut tree, mut open, mut texts) = (Tree::new(), Vec::new(), Vec::new());
+/// Reads a tree as `tests_driver` does.
+fn tree(lines: &str) -> Rows<'_> {
+    let (mut rows, mut open) = (Rows::default(), Vec::new());
     for line in lines.split('\n') {
         let mut fields = line.split('\x01');
         open.truncate(fields.next().unwrap().parse().unwrap());
-        open.push(tree.push(open.last().copied(), fields.next().unwrap()).unwrap());
-        if fields.next() == Some("1") {
-            texts.push(open[open.len() - 1]);
-        }
-        for (name, value) in fields.filter_map(|it| it.split_once('=')) {
-            tree.set_attribute(name, value).unwrap();
-        }
+        let (name, parent) = (fields.next().unwrap(), open.last().copied());
+        let has_content = fields.next() == Some("1");
+        let attributes = fields.filter_map(|it| it.split_once('=')).collect();
+        open.push(rows.push(Row { name, attributes, parent, has_content, ..Row::default() }));
     }
-    (tree, texts)
+    rows
+}
+
+/// The same elements as a ready tree.
+fn ready<'t>(rows: &Rows<'t>) -> Tree<'t> {
+    let mut tree = Tree::new();
+    for row in rows.all() {
+        tree.push(row.parent, row.name).unwrap();
+        row.attributes.iter().for_each(|(name, value)| tree.set_attribute(name, value).unwrap());
+    }
+    tree
 }
 
 /// Reads a length and so many bytes.
@@ -160,13 +234,13 @@ fn main() {
     let mut input = Vec::new();
     std::io::stdin().read_to_end(&mut input).unwrap();
     let mut rest = input.as_slice();
-    let lines = next(&mut rest).unwrap();
-    let (tree, texts) = tree(lines);
-    let mut page = Document::new(&tree);
-    texts.into_iter().for_each(|it| page.set_text(it));
+    let rows = tree(next(&mut rest).unwrap());
+    let tree = ready(&rows);
+    let mut both = Both { document: Document::new(&tree), page: rows.page() };
+    (0..tree.len()).filter(|it| rows.all()[*it].has_content).for_each(|it| both.document.set_text(it));
     let mut out = std::io::BufWriter::new(std::io::stdout().lock());
     while let Some(text) = next(&mut rest) {
-        for answer in answers(&mut page, tree.len(), text) {
+        for answer in answers(&mut both, text) {
             out.write_all(&(answer.len() as u64).to_le_bytes()).unwrap();
             out.write_all(answer.as_bytes()).unwrap();
         }

@@ -1,6 +1,6 @@
 //! Which rules of a style sheet match each element of a page: by the index of the module `modern`, and by a test of each rule.
 //! The fastest of some runs, in turn, in seconds of elapsed time, and their quotient.
-use simplecss::modern::{Document, Sheet};
+use simplecss::modern::{Document, Options, Sheet};
 use simplecss::tree::Tree;
 use std::time::{Duration, Instant};
 
@@ -27,11 +27,13 @@ fn main() {
     let text = std::fs::read_to_string(std::env::args().nth(1).unwrap()).unwrap();
     let classes: Vec<String> = (0..4000).map(|it| format!("{} n{}", CLASSES[it % 6], it % 50)).collect();
     let tree = page(&classes);
-    let (document, sheet) = (Document::new(&tree), Sheet::read(&text, |_, _| true).unwrap());
+    let sheet = Sheet::parse_where(&text, &Options::default(), |_, _| true).unwrap();
+    let document = Document::new(&tree);
     let node = |number| document.node(number).unwrap();
-    let by_rules = || (0..tree.len()).map(|it| sheet.rules().filter(|rule| rule.matches(&node(it))).count()).sum();
+    let count = |it| sheet.rules().filter(|rule| rule.matches(&node(it)).unwrap()).count();
+    let by_rules = || (0..tree.len()).map(count).sum();
     let by_index = || {
-        let mut index = sheet.index();
+        let mut index = sheet.index().unwrap();
         let rules: Vec<_> = sheet.rules().map(|it| it.pseudo_element().is_none()).collect();
         (0..tree.len()).map(|it| index.matching(&node(it)).iter().filter(|it| rules[**it]).count()).sum()
     };

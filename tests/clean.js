@@ -1,0 +1,203 @@
+// What a browser says of texts before and after they are cleaned. `input.kind` is the question.
+"use strict";
+const LISTED = new Set(["color", "background", "background-color", "width", "font-size",
+    "background-attachment", "background-clip", "background-image", "background-origin",
+    "background-position-x", "background-position-y", "background-repeat", "background-size"]);
+const PSEUDOS = new Set(["active", "after", "before", "checked", "disabled", "empty", "first-child",
+    "first-of-type", "focus", "hover", "is", "last-child", "last-of-type", "link", "not", "nth-child",
+    "nth-of-type", "only-child", "visited", "where"]);
+const WORDS = new Set(["all", "and", "dark", "landscape", "light", "max-device-width", "max-width",
+    "min-device-width", "min-width", "not", "only", "orientation", "portrait",
+    "prefers-color-scheme", "print", "screen"]);
+const OTHER_FUNCTION = /\b(?!(?:rgb|rgba|hsl|hsla|calc|var)\b)[-a-z]+\(/i;
+const isFine = value => !/evil/.test(value) && !OTHER_FUNCTION.test(value);
+const newlines = text => text.replace(/\r\n?/g, "\n");
+
+// ---- style attributes
+
+function values(style) {
+    const found = {};
+    for (const name of style)
+        found[name] = style.getPropertyValue(name) + (style.getPropertyPriority(name) ? "!" : "");
+    return found;
+}
+function attribute(text) {
+    const element = document.createElement("div");
+    element.setAttribute("style", text);
+    return values(element.style);
+}
+// In an attribute in quotes, escaped as HTML serializers do, in a style element and in a comment.
+function isFramed(text) {
+    const escaped = text.replace(/&/g, "&amp;").replace(/"/g, "&quot;");
+    const page = document.createElement("template");
+    page.innerHTML =
+        `<div style="${escaped}"></div><style>x{${text}}</style><!-- ${text} --><i></i>`;
+    const nodes = page.content.childNodes;
+    return nodes.length == 4 && nodes[0].attributes.length == 1 && nodes[3].localName == "i"
+        && nodes[0].getAttribute("style") === newlines(text)
+        && nodes[1].textContent === `x{${newlines(text)}}`;
+}
+// What follows it in a sheet is read.
+function isClosed(text) {
+    const sheet = new CSSStyleSheet();
+    sheet.replaceSync(`x{${text}}y{top:7px}`);
+    const rules = sheet.cssRules;
+    return rules.length == 2 && rules[1].style?.top == "7px" && rules[0].cssRules?.length === 0;
+}
+function style([raw, clean]) {
+    const before = attribute(raw), after = attribute(clean);
+    const isBad = found => Object.keys(found).some(n => !LISTED.has(n) || !isFine(found[n]));
+    const lost = Object.keys(before).filter(name => LISTED.has(name) && before[name] !== ""
+        && isFine(before[name]) && !name.startsWith("background") && after[name] !== before[name]);
+    const more = Object.keys(after).filter(name => !(name in before));
+    return { wasBad: isBad(before), bad: isBad(after), lost, more, framed: isFramed(clean),
+        closed: isClosed(clean), wasFramed: isFramed(raw), wasClosed: isClosed(raw) };
+}
+
+// ---- sheets
+
+// The selectors of a list, as the browser writes it.
+function split(text) {
+    const found = [];
+    let depth = 0, quote = "", one = "";
+    for (const sign of text.replace(/\\./g, each => "\u0001" + each[1])) {
+        if (quote) quote = sign == quote ? "" : quote;
+        else if (sign == '"' || sign == "'") quote = sign;
+        else if ("([".includes(sign) && !one.endsWith("\u0001")) depth++;
+        else if (")]".includes(sign) && !one.endsWith("\u0001")) depth--;
+        if (sign == "," && !depth && !quote && !one.endsWith("\u0001")) {
+            found.push(one);
+            one = "";
+        } else one += sign;
+    }
+    return [...found, one].map(each => each.replaceAll("\u0001", "\\").trim());
+}
+// What is left of a selector after the names at its front that mean the scope, and how it is joined to the scope.
+function inner(selector) {
+    let text = selector, joined = "";
+    for (let found; (found = /^(?:html|body|:root|:host)(?![^\s>+~])\s*(>?)\s*/i.exec(text));) {
+        text = text.slice(found[0].length);
+        joined = found[1];
+    }
+    return { text, joined };
+}
+function mayBeUnder(whole) {
+    const { text: selector } = inner(whole);
+    if (selector == "") return false;
+    const plain = selector.replace(/"[^"]*"/g, '""');
+    if (/[&|\\<{}@]/.test(plain) || /[<{}\\@]/.test(selector)) return false;
+    for (const found of plain.matchAll(/::?([-\w]+)/g)) if (!PSEUDOS.has(found[1])) return false;
+    return !/^[>+~]/.test(plain);
+}
+function mayBeMedia(text) {
+    return text == "" || text != "not all" && !/[<>=]/.test(text)
+        && [...text.matchAll(/(?<![\d.])[a-zA-Z][-\w]*/g)].every(x => WORDS.has(x[0].toLowerCase()));
+}
+function walk(rules, media, found, isTop) {
+    for (const rule of rules) {
+        const kind = rule.constructor.name;
+        if (kind == "CSSMediaRule" && isTop) walk(rule.cssRules, rule.media.mediaText, found, false);
+        else if (kind != "CSSStyleRule") found.push({ other: kind });
+        else {
+            const all = values(rule.style);
+            for (const each of rule.cssRules)
+                if (each.constructor.name == "CSSNestedDeclarations")
+                    for (const [name, value] of Object.entries(values(each.style)))
+                        if (!(all[name] || "").endsWith("!") || value.endsWith("!")) all[name] = value;
+            const list = split(rule.selectorText), isNested = rule.cssRules.length > 0;
+            found.push({ list, all, media, isNested });
+        }
+    }
+    return found;
+}
+function parsed(text) {
+    const sheet = new CSSStyleSheet();
+    sheet.replaceSync(text);
+    return walk(sheet.cssRules, "", [], true);
+}
+// What of a cleaned sheet is outside of the policy.
+function outsideOfPolicy(rules) {
+    const found = [];
+    for (const rule of rules) {
+        if (rule.other || rule.isNested) found.push(rule.other || "nested");
+        for (const each of rule.list || [])
+            if (!/^\.mail (?:> )?(?![>+~])/.test(each)) found.push(each);
+        for (const [name, value] of Object.entries(rule.all || {}))
+            if (!LISTED.has(name) || !isFine(value)) found.push(`${name}: ${value}`);
+    }
+    return found;
+}
+const under = list => list.map(inner).map(({ text, joined }) => `.mail ${joined && joined + " "}${text}`).join();
+// The rules of the raw sheet that are allowed, and not kept in their order.
+function lostRules(before, after) {
+    const lost = [];
+    let next = 0;
+    for (const rule of before) {
+        if (rule.other || !rule.list.every(mayBeUnder) || !mayBeMedia(rule.media)) continue;
+        const wanted = Object.keys(rule.all).filter(name => LISTED.has(name) && rule.all[name] !== ""
+            && isFine(rule.all[name]) && !name.startsWith("background-"));
+        if (!wanted.length) continue;
+        const at = after.findIndex((one, k) => k >= next && one.list?.join() == under(rule.list)
+            && one.media == rule.media && wanted.every(name => one.all[name] === rule.all[name]));
+        if (at < 0) lost.push(rule.list.join());
+        else next = at + 1;
+    }
+    return lost;
+}
+// The rules that are kept, and that the browser does not read in the raw sheet.
+function addedRules(before, after) {
+    const read = new Set(before.filter(rule => rule.list).map(rule => under(rule.list)));
+    return after.filter(rule => rule.list && !read.has(rule.list.join())).map(rule => rule.list.join());
+}
+const PROPERTIES = ["color", "background-color", "background-image", "min-width", "font-size",
+    "position", "display", "opacity", "z-index", "animation-name", "--host", "--hc", "--a", "content",
+    "margin-top", "max-height", "counter-increment", "transform", "visibility", "overflow-x"];
+// The computed styles outside of the scope.
+function outside() {
+    return [...document.querySelectorAll("html, body, p, a, div, pre")]
+        .filter(element => !element.closest(".mail"))
+        .map(element => [null, "::before"].map(pseudo => {
+            const computed = getComputedStyle(element, pseudo);
+            return PROPERTIES.map(name => computed.getPropertyValue(name)).join(";");
+        }).join("|")).join("\n");
+}
+// Whether a sheet ends its element, and changes what is outside of the scope.
+function inPage(text) {
+    const slot = document.getElementById("slot");
+    slot.innerHTML = "<style>zz{}</style>";
+    const usual = outside();
+    slot.innerHTML = `<style>${text}</style><i></i>`;
+    const nodes = slot.childNodes;
+    const framed = nodes.length == 2 && nodes[0].textContent === newlines(text)
+        && nodes[1].localName == "i" && nodes[0].sheet !== null;
+    const same = outside() === usual;
+    slot.innerHTML = "";
+    return { framed, same };
+}
+function sheet([raw, clean]) {
+    const before = parsed(raw), after = parsed(clean);
+    return { bad: outsideOfPolicy(after), lost: lostRules(before, after), more: addedRules(before, after),
+        after: inPage(clean), before: inPage(raw) };
+}
+
+// ---- threats
+
+// Puts texts into the page, each where it belongs.
+function threat([form, text]) {
+    const element = document.createElement(form == "style" ? "p" : "style");
+    if (form == "style") {
+        element.setAttribute("style", text);
+        element.setAttribute("data-u", input.base + "attr");
+        element.textContent = "x";
+    } else element.textContent = text;
+    document.getElementById("mail").append(element);
+}
+function answer(found) {
+    document.documentElement.textContent = "ANS" + "WER" + JSON.stringify(found) + "END";
+}
+window.onload = () => {
+    if (input.kind == "threats") {
+        input.work.forEach(threat);
+        setTimeout(() => answer([]), 3000);
+    } else answer(input.work.map(input.kind == "style" ? style : sheet));
+};
