@@ -18,6 +18,7 @@ from simplecss import Selector, SelectorError, sieve  # noqa: E402
 try:
     import bs4
     import soupsieve
+    from soupsieve import css_match
 
     HAS_SOUPS = True
 except ImportError:
@@ -75,9 +76,9 @@ def asked(call: Callable[[], Any]) -> Any:
     return found if isinstance(found, bool) else (found is not None and id(found))
 
 
-def is_about(root: Any, found: Any) -> bool:
-    """Whether a call may return the root of a soup."""
-    return found is True or found == id(root) or isinstance(found, list) and id(root) in found
+def is_nested(text: str) -> bool:
+    """Whether a text may have `:has()` in `:has()`, which is invalid in CSS and not in soupsieve."""
+    return text.lower().count(":has(") > 1
 
 
 def named(root: Any, found: Any) -> Any:
@@ -86,6 +87,21 @@ def named(root: Any, found: Any) -> Any:
     if isinstance(found, list):
         return [places.get(each, each) for each in found]
     return found if isinstance(found, bool) else f"the one at {places.get(found, found)}"
+
+
+class Parent:
+    """The parent that soupsieve gives a detached root, with as many comments as each tag has here."""
+
+    def __init__(self, element: Any) -> None:
+        self.contents = [element, *comments()]
+
+    def __len__(self) -> int:
+        return len(self.contents)
+
+
+def comments() -> List[Any]:
+    """What ends each tag: soupsieve does not find the child B by `An+B` if B is the number of nodes."""
+    return [bs4.Comment("") for _ in range(8)]
 
 
 class Soups(Source):
@@ -99,9 +115,7 @@ class Soups(Source):
             tag[key] = value.split() if key == "class" and self.random() < 0.5 else value
         for child in children:
             tag.append(child if isinstance(child, str) else self.soup(child, is_xml))
-        # soupsieve does not find the child B by `An+B` if B is the number of nodes.
-        for _ in range(8):
-            tag.append(bs4.Comment(""))
+        tag.extend(comments())
         return tag
 
     def change(self, root: Any) -> None:
@@ -146,6 +160,7 @@ class Beside(Case):
         if not HAS_SOUPS:
             return by_debian(self, "soupsieve", "`simplecss.sieve` beside soupsieve")
         signal.signal(signal.SIGALRM, stop)
+        css_match._FakeParent = Parent
         source = Soups(f"{kind} {is_xml} {is_in_document}")
         rows: List[Optional[str]] = []
         for _ in range(count(40)):
@@ -163,20 +178,14 @@ class Beside(Case):
 
     def rows(self, text: str, root: Any, tag: Any) -> Iterator[Optional[str]]:
         """Yields a row for each call."""
-        is_odd = is_open(text) or any(map(ODD_IN_SOUP.search, (text, plain(text))))
+        is_odd = (
+            is_open(text) or is_nested(text) or any(map(ODD_IN_SOUP.search, (text, plain(text))))
+        )
         # HTML compares more values without case than soupsieve does.
         is_odd = is_odd or not root._is_xml and "lang" in text
         ours, theirs = answers_of(sieve, text, root, tag), answers_of(soupsieve, text, root, tag)
-        # Nor does it find a detached root by `An+B`, which is the first of one.
-        is_numbered = "nth-" in text.lower()
         for (name, found), (_, due) in zip(ours, theirs):
-            if (
-                is_odd
-                or found is None
-                or due is None
-                or is_numbered
-                and any(is_about(root, each) for each in (found, due))
-            ):
+            if is_odd or found is None or due is None:
                 yield LEFT_OUT
             else:
                 is_same = found == due
