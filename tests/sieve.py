@@ -160,7 +160,7 @@ class Beside(Case):
         if not HAS_SOUPS:
             return by_debian(self, "soupsieve", "`simplecss.sieve` beside soupsieve")
         signal.signal(signal.SIGALRM, stop)
-        css_match._FakeParent = Parent
+        setattr(css_match, "_FakeParent", Parent)
         source = Soups(f"{kind} {is_xml} {is_in_document}")
         rows: List[Optional[str]] = []
         for _ in range(count(40)):
