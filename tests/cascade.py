@@ -14,7 +14,7 @@ from typing import Any, Dict, Iterator, List, Optional, Sequence, Tuple
 from tests.common import Case, browser_answers, count, package, read, row, rows
 
 package()
-from simplecss import StyleSheet, Tree  # noqa: E402
+from simplecss import StyleSheet, Tree, compare  # noqa: E402
 
 COLORS = ("flood-color", "stop-color", "lighting-color")
 INITIAL = {"flood-color": "rgb(0, 0, 0)", "stop-color": "rgb(0, 0, 0)"}
@@ -222,6 +222,16 @@ class Source:
         self._number = 0
         return "".join(self._item(0) for _ in range(self._random.randrange(8)))
 
+    def changed(self) -> Tuple[str, str]:
+        """A sheet, and the same with a rule or a layer taken out, put elsewhere or put in."""
+        self._number = 0
+        items = [self._item(0) for _ in range(self._random.randrange(2, 7))]
+        others = [*items, self._item(0)] if self._random.random() < 0.3 else items.copy()
+        taken = others.pop(self._random.randrange(len(others)))
+        if self._random.random() < 0.7:
+            others.insert(self._random.randrange(len(others) + 1), taken)
+        return "".join(items), "".join(others)
+
     def element(self, depth: int = 0) -> str:
         """An element with what is in it."""
         is_likely = self._random.random
@@ -348,6 +358,42 @@ class Cascade(Case):
             return rows(case, found, due)
 
         self.against(lambda asked: computed(PAGE, names, asked), cases, question)
+
+    def test_compared(self) -> None:
+        """Where the browser computes another value by a changed sheet, `compare` names the property."""
+        source, names = Source(109), [*COLORS, "margin-top"]
+        pairs = [source.changed() for _ in range(count(800))]
+        drawings = [f"<svg>{source.element()}{source.element()}</svg>" for _ in pairs]
+        cases = [
+            [{"text": text, "drawing": drawing} for text in pair]
+            for pair, drawing in zip(pairs, drawings)
+        ]
+        quiet = 0
+
+        def question(case: List[Dict[str, str]], due: List[Any]) -> List[Optional[str]]:
+            nonlocal quiet
+            old, new = (StyleSheet(each["text"]) for each in case)
+            tree = Tree.from_html(case[0]["drawing"])
+            shown = [each for each in tree if each.name in ("g", "rect")]
+            found = {(each.element, each.name) for each in compare(old, new, tree)}
+            quiet += not found
+            named = [[name for name in names if (element, name) in found] for element in shown]
+            missed = [
+                [
+                    name
+                    for name, one, other in zip(names, *both)
+                    if one != other and name not in those
+                ]
+                for those, *both in zip(named, *due)
+            ]
+            return rows(case, missed, [[] for _ in shown])
+
+        def judge(asked: List[List[Dict[str, str]]]) -> Optional[List[Any]]:
+            found = computed(PAGE, names, [each for case in asked for each in case])
+            return found if found is None else list(zip(found[::2], found[1::2]))
+
+        self.against(judge, cases, question)
+        self.assertLess(len(cases) // 20, quiet)
 
     def test_written_sheets(self) -> None:
         """Sheets that were written for what the standards say of nesting, layers, rolling back, selectors and syntax,

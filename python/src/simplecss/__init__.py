@@ -21,6 +21,7 @@ if TYPE_CHECKING:
         is_clean,
         is_clean_style,
     )
+    from ._compare import Difference, compare
     from ._declaration import Declaration
     from ._device import Device
     from ._elements import TreeError
@@ -60,6 +61,7 @@ __all__ = [
     "Condition",
     "Declaration",
     "Device",
+    "Difference",
     "Dropped",
     "Element",
     "Finding",
@@ -85,6 +87,7 @@ __all__ = [
     "__version__",
     "clean",
     "clean_style",
+    "compare",
     "declarations",
     "escape",
     "has_valid_references",
@@ -111,6 +114,7 @@ if not TYPE_CHECKING:
     # The names of each module, which is imported when one of them is first used.
     _NAMES = {
         "_clean": "CSSSanitizer Cleaned Dropped Policy clean clean_style is_clean is_clean_style",
+        "_compare": "Difference compare",
         "_declaration": "Declaration",
         "_device": "Device",
         "_elements": "TreeError",

@@ -240,6 +240,12 @@ def _select(words: argparse.Namespace) -> int:
     return status or (REFUSED if words.quiet and not found else DONE)
 
 
+def _compare(words: argparse.Namespace) -> int:
+    pages = [each for name in words.pages for each in _files_of(name)]
+    status, found = _show_each(words, pages)
+    return status or (REFUSED if found else DONE)
+
+
 def _inline(words: argparse.Namespace) -> int:
     pages, words.sheets = _parted(words.files, 0)
     return _write_each(words, pages, "pages")
@@ -497,6 +503,8 @@ def _parser() -> argparse.ArgumentParser:
     command.usage = "simplecss style [OPTION..] [SHEET..] PAGE.. NAME"
     text = "Show the elements that a list of selectors matches."
     _add_select(add("select", _select, _jobs.Select, text))
+    text = "Show the properties that two style sheets set differently on the elements of pages."
+    _add_compare(add("compare", _compare, _jobs.Compare, text))
     text = "Write style sheets into the style attributes of pages."
     _add_inline(add("inline", _inline, _jobs.Inline, text))
     text = "Show the mistakes in style sheets, and in those of pages."
@@ -618,6 +626,14 @@ def _add_select(command: Any) -> None:
     )
     _add_grammar(command)
     command.add_argument("selectors", metavar="SELECTORS", help="a list, such as `a, b > c`")
+    text = "a page, folder or pattern"
+    command.add_argument("pages", nargs="+", metavar="PAGE", help=text)
+
+
+def _add_compare(command: Any) -> None:
+    _add_device(command)
+    command.add_argument("old", metavar="OLD", help="a style sheet")
+    command.add_argument("new", metavar="NEW", help="the style sheet that it is compared with")
     text = "a page, folder or pattern"
     command.add_argument("pages", nargs="+", metavar="PAGE", help=text)
 

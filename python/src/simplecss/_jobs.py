@@ -11,6 +11,8 @@ from typing import Any, Iterator, List, NamedTuple, Optional
 
 from . import _lint
 from ._clean import Cleaned, clean, clean_style, is_clean, is_clean_style
+from ._compare import compare
+from ._declaration import Declaration
 from ._device import Device
 from ._elements import TreeError
 from ._imports import LOSES
@@ -239,6 +241,33 @@ class Select(Job):
                 self._write(f"{self._position(name, element)}: {printable(str(element))}\n")
             elif words.attr in element.attributes:
                 self._write(self._shown(element.attributes[words.attr]) + "\n")
+
+
+class Compare(Job):
+    """Writes the longhands that two style sheets set differently on the elements of a page."""
+
+    def _do(self, name: str) -> Outcome:
+        text = self._page(name)
+        tree = self._tree(name, text)
+        old, new = (sheet_of_texts((read(each),)) for each in (self.words.old, self.words.new))
+        room = Room(most_written(len(text)), "characters")
+        found = compare(old, new, tree, media=self._device())
+        for element, longhand, *both in found:
+            room.take(sum(len(each.value) for each in both if each is not None))
+            if self.words.json:
+                values = [None if each is None else each._asdict() for each in both]
+                row = {"file": name, "element": element.index, "name": longhand}
+                self._write(json_line({**row, "old": values[0], "new": values[1]}))
+                continue
+            before, after = map(_shown_declaration, both)
+            shown = printable(f"{element} {longhand}: {before} -> {after}")
+            self._write(f"{self._position(name, element)}: {shown}\n")
+        return self._outcome(name, found=len(found))
+
+
+def _shown_declaration(declaration: Optional[Declaration]) -> str:
+    """Returns a declaration as it is shown."""
+    return "nothing" if declaration is None else str(declaration)
 
 
 class Inline(Job):

@@ -39,11 +39,18 @@ def shorthands(name: str) -> Tuple[str, ...]:
     return tuple(found.decode("utf-8").split())
 
 
+@functools.lru_cache(maxsize=4096)
+def counterparts(name: str) -> Tuple[str, ...]:
+    """Returns the physical property that a logical one sets in text that is horizontal, from left to right,
+    or the logical one of a physical one."""
+    found = library.call("simplecss_counterpart", library.encode(lower(name)), room=64)
+    return tuple(found.output.decode("utf-8").split())
+
+
 def names_setting(name: str) -> Tuple[str, ...]:
     """Returns the names of properties that set a longhand: its own, those of its shorthands, and in text that
     is horizontal, from left to right, the logical and the physical one with theirs."""
-    other = library.call("simplecss_counterpart", library.encode(lower(name)), room=64)
-    pair = (name, *other.output.decode("utf-8").split())
+    pair = (name, *counterparts(name))
     return tuple(dict.fromkeys(each for one in pair for each in (one, *shorthands(one))))
 
 
