@@ -1,5 +1,5 @@
-//! Tests of the libraries that `cssq` is made of, and of the ready tree: what they read and print, the
-//! program's words, runs and warnings, which elements are matched, and how often they are tested. The
+//! Tests of the libraries that `cssq` is made of, and of the ready tree, where no program shows what is
+//! asked: warnings, limits, edited sheets, writers that fail, and how often elements are tested. The
 //! crate has no item of its own, so that no library is proved twice for its tests.
 #![tactic(auto)]
 

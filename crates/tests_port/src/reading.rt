@@ -1,6 +1,5 @@
 //! What the library reads and prints: selectors, statements and sheets.
 
-mod cut_texts;
 mod errors;
 mod printing;
 mod selectors;

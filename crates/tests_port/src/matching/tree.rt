@@ -1,8 +1,7 @@
 //! The answers of the elements of the ready tree.
 
 use crate::same::same;
-use log::sink::Discard;
-use simplecss::{Element, Keyed, Selector};
+use simplecss::{Element, Keyed};
 use simplecss_tree::{Nodes, States, Tree, TreeError};
 use std::alloc::{AllocError, Global};
 use std::io;
@@ -50,78 +49,6 @@ fn two_trees(alloc: Global) -> Result<Tree<'static>, TreeError> {
     states.hover = true;
     tree.set_states(7, states)?;
     Ok(tree)
-}
-
-/// Returns the indices of the elements that the selector matches.
-fn matched(alloc: Global, tree: &Tree<'_>, text: &str) -> Result<Vec<usize>, Fail> {
-    let selector = Selector::parse(&Discard, alloc, text)?.ok_or("refused")?;
-    let mut indices = Vec::new(alloc);
-    for index in 0..tree.len() {
-        let node = tree.node(index).ok_or("no element")?;
-        if selector.matches(&node) {
-            indices.push(index)?;
-        }
-    }
-    Ok(indices)
-}
-
-/// Selectors, and the indices of the elements that they match. By CSS 2.1: sections 5.2 to 5.9 for
-/// names, combinators and attributes, 5.11.1 for `:first-child`, and 5.11.4 for `:lang`, which
-/// children inherit and which compares ASCII letters without their case.
-const MATCHED: &[(&str, &[usize])] = &[
-    ("*", &[0, 1, 2, 3, 4, 5, 6, 7, 8, 9, 10]),
-    ("b", &[3, 5]),
-    ("B", &[]),
-    ("a b", &[3, 5]),
-    ("a > b", &[3]),
-    ("a > b + c", &[4]),
-    ("c + c", &[6]),
-    ("html + f", &[9]),
-    ("* > :first-child", &[1, 3, 5, 8, 10]),
-    ("#x", &[2]),
-    ("#X", &[10]),
-    (".y", &[3]),
-    (".w.y", &[3]),
-    (".Y", &[]),
-    ("[class='y w']", &[3]),
-    ("[lang|=en]", &[0, 7]),
-    (":lang(en)", &[0, 1, 2, 3, 4, 5, 6, 7, 8]),
-    (":lang(EN-us)", &[7, 8]),
-    (":lang(english)", &[9, 10]),
-    (":hover", &[7]),
-    (":link", &[]),
-];
-
-#[test]
-fn matches_as_the_standard_says(rt: HostRuntime) -> Result<(), Fail> {
-    let tree = two_trees(rt.alloc())?;
-    for &(text, wanted) in MATCHED {
-        let indices = matched(rt.alloc(), &tree, text)?;
-        same(&rt, indices.as_slice(), wanted, text);
-    }
-    Ok(())
-}
-
-#[test]
-fn returns_each_state(rt: HostRuntime) -> Result<(), Fail> {
-    let mut tree = Tree::new(rt.alloc());
-    tree.push(None, "a")?;
-    let texts = [":link", ":visited", ":hover", ":active", ":focus"];
-    for (number, text) in texts.iter().enumerate() {
-        let states = States {
-            link: number == 0,
-            visited: number == 1,
-            hover: number == 2,
-            active: number == 3,
-            focus: number == 4,
-        };
-        tree.set_states(0, states)?;
-        for other in texts {
-            let is_matched = !matched(rt.alloc(), &tree, other)?.is_empty();
-            same(&rt, is_matched, other == *text, other);
-        }
-    }
-    Ok(())
 }
 
 /// Elements, their parents and their previous siblings, by index.

@@ -268,30 +268,3 @@ fn sheets_are_made_of_rules(rt: HostRuntime) -> Result<(), Fail> {
     same(&rt, prints(&rt, &sheet, want)?, true, want);
     Ok(())
 }
-
-/// Sheets, their printed text, and the printed text of that. The last two show what the law of
-/// printing excludes: a bare apostrophe in a value, and white space past ASCII.
-const PRINTED: &[(&str, &str, &str)] = &[
-    (
-        "a .b { c:d } .b:lang( en ) { c:d }",
-        "a *[class~='b'] { c:d; }\n*[class~='b']:lang(en) { c:d; }",
-        "a *[class~='b'] { c:d; }\n*[class~='b']:lang(en) { c:d; }",
-    ),
-    (
-        "[x=\"a'b\"] { c:d } e { f:g }",
-        "e { f:g; }\n*[x='a'b'] { c:d; }",
-        "e { f:g; }",
-    ),
-    ("a { b:\u{3000}(x) }", "a { b:(x); }", ""),
-];
-
-#[test]
-fn reads_again_what_it_printed(rt: HostRuntime) -> Result<(), Fail> {
-    for &(text, printed, again) in PRINTED {
-        let first = read(&rt, text)?.to_string(rt.alloc())?;
-        same(&rt, first.as_str(), printed, text);
-        let second = read(&rt, first.as_str())?.to_string(rt.alloc())?;
-        same(&rt, second.as_str(), again, text);
-    }
-    Ok(())
-}
