@@ -8,6 +8,8 @@ use Rattle.css_clean.specs.Policies.{are_safe}
 use Rattle.css_clean.specs.Cleaning.{DroppedText, cleaned, kept, read_of, dropped_of}
 use Rattle.css_clean.specs.Selectors.{SheetPolicyText}
 use Rattle.css_clean.specs.Sheets.{is_clean, is_style_clean}
+use Rattle.css_clean.specs.KeptSheets.{cleaned_sheet}
+use Rattle.css_clean.specs.DroppedSheets.{dropped_of_sheet}
 use Rattle.css_clean.specs.declared.dropped.Reason.{Reason}
 use Rattle.css_clean.specs.declared.dropped.Reason.TheVariants as reasons
 use Rattle.call_answers.specs.declared.answer.CallError.{CallError}
@@ -50,10 +52,11 @@ FailsToClean form text passed =
 -- ---- what is kept
 
 -- What is kept of a text. Of a style attribute it is the declarations that the policy allows, in their order; read
--- again it is these and nothing else, and it has no byte but those that may be written. Of a sheet it is a sheet that
--- the policy allows.
+-- again it is these and nothing else, and it has no byte but those that may be written. Of a sheet it is the text of
+-- its rules that the policy allows, in their order, or nothing, if that text is not clean; it is clean either way.
 abbrev pub IsKept : Form → SheetPolicyText → (text bytes : List ℕ) → Type 0
-IsKept Sheet policy text bytes = is_clean policy bytes ≡ true
+IsKept Sheet policy text bytes =
+    (bytes ≡ cleaned_sheet policy text) × (is_clean policy bytes ≡ true)
 IsKept Style policy text bytes =
     (bytes ≡ cleaned policy.declarations (read_of policy.declarations text))
     × (items false bytes ≡ map printed_part
@@ -119,10 +122,10 @@ reason_number reasons.Unclean = 13
 abbrev pub dropped_row : DroppedText → List ℕ
 dropped_row one = one.start ∷ one.after ∷ reason_number one.reason ∷ []
 
--- What is dropped: of a style attribute all items that the policy does not allow, in order. Which pieces it is of a
--- sheet is not said.
+-- What is dropped: of a style attribute all items that the policy does not allow, in order; of a sheet all of its
+-- pieces that are not kept, in order, or the whole sheet.
 abbrev pub AreDropped : Form → SheetPolicyText → (text : List ℕ) → List DroppedText → Type 0
-AreDropped Sheet policy text all = Unit {0}
+AreDropped Sheet policy text all = all ≡ dropped_of_sheet policy text
 AreDropped Style policy text all = all ≡ dropped_of policy.declarations text
 
 -- what a text of this form is cleaned to, both what is kept of it and what is dropped, or why it is not

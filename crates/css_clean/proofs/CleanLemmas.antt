@@ -143,15 +143,17 @@ pub if_ok : {A E : Type 0} (r : Result A E) (P Q : A → Type 0) → IfOk r P �
 if_ok (Ok x) P Q h f = f x h
 if_ok (Err e) P Q h f = tt
 
+pub not-short : (p : PolicyText) (text : List ℕ) → p.longest < length text → is_short p text ≡ false
+not-short p text h = grind (arith, nat_tests)
+
 pub long-is : (p : PolicyText) (text : List ℕ) → p.longest < length text → read_of p text ≡ []
-long-is p text h =
-    let long : is_short p text ≡ false = grind (arith, nat_tests) in
-    ap (λ (b : Bool). if b then text else []) long
+long-is p text h = ap (λ (b : Bool). if b then text else []) (not-short p text h)
+
+pub is-short : (p : PolicyText) (text : List ℕ) → length text ≤ p.longest → is_short p text ≡ true
+is-short p text h = grind (arith, nat_tests)
 
 pub short-is : (p : PolicyText) (text : List ℕ) → length text ≤ p.longest → read_of p text ≡ text
-short-is p text h =
-    let short : is_short p text ≡ true = grind (arith, nat_tests) in
-    ap (λ (b : Bool). if b then text else []) short
+short-is p text h = ap (λ (b : Bool). if b then text else []) (is-short p text h)
 
 items-nil : items false [] ≡ []
 unfolding items each_of

@@ -1,9 +1,10 @@
--- What is left after a selector of a list is shorter. Serves the loops over selectors.
-use Rattle.std.proofs.Common.{◌≡◌, ◌<◌, ℕ, Bool, true, false, List, [], ◌∷◌, length, if◌then◌else◌, Option, None, refl, arith}
+-- What is left after a selector of a list is shorter, and when a list is empty. Serves the loops over selectors.
+use Rattle.std.proofs.Common.{◌≡◌, ◌==◌, ◌<◌, ℕ, Bool, true, false, List, [], ◌∷◌, length, if◌then◌else◌, Option, None, refl, arith}
 use Rattle.css_text.specs.AsciiBytes.{comma}
 use Rattle.css_text.specs.Bytes.{past_byte}
-use Rattle.css_text.proofs.reading.EachLemmas.{Shrinks, Takes}
+use Rattle.css_text.proofs.reading.EachLemmas.{Shrinks, Takes, not_empty}
 use Rattle.css_text.proofs.reading.TakesLemmas.{length-past_byte}
+use Rattle.css_syntax.specs.DeclarationLists.{is_empty}
 use Rattle.css_syntax.specs.Parts.{Stated, ends_at, parts}
 use Rattle.css_syntax.proofs.PartLemmas.{past_gap-within, parts-less}
 use Rattle.css_clean.specs.Selectors.{SheetPolicyText, next_selector, selector_ends, selector_is_read, selector_read}
@@ -35,3 +36,8 @@ next_selector-takes policy is_scoped (b ∷ text) = by (ends_at selector_ends (b
     by false e =
         read-shrinks (b ∷ text) policy is_scoped (parts selector_ends (b ∷ text))
         (omega (arith, parts-less selector_ends b text e))
+
+-- a list that is empty by the number of its bytes
+pub empty-is : (text : List ℕ) → (length text == 0) ≡ is_empty text
+empty-is [] = refl
+empty-is (b ∷ text) = not_empty b text

@@ -3,4 +3,8 @@ pub mod Cleaning
 pub mod Scopes
 pub mod Selectors
 pub mod Sheets
+pub mod Fronts
+pub mod Scoping
+pub mod KeptSheets
+pub mod DroppedSheets
 pub mod Views

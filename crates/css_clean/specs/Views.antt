@@ -5,9 +5,13 @@ use Rattle.css_clean.specs.declared.policy.Place.{Place}
 use Rattle.css_clean.specs.declared.policy.Place.TheVariants as places
 use Rattle.css_clean.specs.declared.selectors.SheetPolicy.{SheetPolicy}
 use Rattle.css_clean.specs.declared.dropped.Dropped.{Dropped}
+use Rattle.css_clean.specs.declared.fronts.Inner.{Inner}
+use Rattle.css_clean.specs.declared.sheet.Part.{Part}
 use Rattle.css_clean.specs.Policies.{PolicyText, PlaceText, in_value, in_selector, in_media, in_scope, in_sheet}
 use Rattle.css_clean.specs.Cleaning.{DroppedText}
 use Rattle.css_clean.specs.Selectors.{SheetPolicyText}
+use Rattle.css_clean.specs.Fronts.{InnerText}
+use Rattle.css_clean.specs.DroppedSheets.{StatementPlace}
 
 abbrev pub policy_of : Policy → PolicyText
 policy_of p = record {
@@ -38,3 +42,14 @@ place_of (places.Sheet functions pseudos) =
 
 abbrev pub dropped_of : Dropped → DroppedText
 dropped_of d = record { start = d.start; after = d.end; reason = d.reason }
+
+abbrev pub inner_view : Inner → InnerText
+inner_view i = record { text = i.text.now; is_child = i.is_child }
+
+abbrev pub place_of_part : Part → StatementPlace
+place_of_part p = record {
+  stop = p.stop;
+  from = p.found.from.now;
+  inside = p.found.inside.now;
+  text = p.found.part.text.now;
+}

@@ -12,6 +12,7 @@ pub mod laws;
 pub mod lists;
 mod policy;
 mod scopes;
+mod scoping;
 mod selectors;
 mod sheet;
 mod style;

@@ -5,7 +5,7 @@ use Rattle.clean_calls.proofs.cleaning.cleaned.Goals as goal
 pub returns-in-Sheet : goal.returns-in-Sheet
 returns-in-Sheet c =
     kept-sheet c.args.form (sheet_policy_of c.args.policy) c.args.text.now c.clean_sheet.result c.in-Sheet.is
-    c.clean_sheet.ensures
+    c.clean_sheet.ensures.text c.clean_sheet.ensures.clean c.clean_sheet.ensures.dropped
 
 pub returns-in-Style : goal.returns-in-Style
 returns-in-Style c =

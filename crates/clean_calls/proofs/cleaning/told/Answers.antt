@@ -1,27 +1,9 @@
-use Rattle.std.proofs.Common.{◌⊎◌, rules, ◌≡◌, map, sym, subst, ◌∙◌, ap}
-use Rattle.std.specs.Str.{IsUtf8}
-use Rattle.call_answers.specs.Calls.{HasTexts, IsBrokenUtf8}
+use Rattle.std.proofs.Common.{rules, ◌≡◌, ◌∙◌, ap}
 use Rattle.css_clean.specs.Views.{sheet_policy_of}
-use Rattle.clean_calls.specs.Passed.{passed_of, IsNoPolicy}
+use Rattle.clean_calls.specs.Passed.{passed_of}
 use Rattle.clean_calls.specs.CleanCalls.{is_clean_text, says}
-use Rattle.clean_calls.proofs.Kept.{fails-more}
+use Rattle.clean_calls.proofs.Kept.{texts-same, fails-policy}
 use Rattle.clean_calls.proofs.cleaning.told.Goals as goal
-
-pub policy_of-requires : goal.policy_of-requires
-policy_of-requires c =
-    let passed = passed_of c.args.passed.now in
-    record {
-      passed = subst (λ xs. HasTexts passed.texts passed.ends (map (λ t. t.now) xs)) (sym c.as_slice.ensures.value)
-          c.in_ok-text.ensures.2;
-    }
-
-pub returns-in_err-policy : goal.returns-in_err-policy
-returns-in_err-policy c =
-    let passed = passed_of c.args.passed.now in
-    let more = fails-more (IsNoPolicy c.args.form passed)
-    (¬ (IsUtf8 c.args.text.now) ⊎ IsBrokenUtf8 passed.texts passed.ends) c.in_err-policy.field-0.0
-    c.in_err-policy.ensures in
-    search rules
 
 pub returns : goal.returns
 returns c =
@@ -33,3 +15,14 @@ returns c =
       c.in_ok-policy.ensures,
       c.in_ok-word.ensures ∙ ap says same,
     )
+
+pub returns-in_err-policy : goal.returns-in_err-policy
+returns-in_err-policy c =
+    let fails = fails-policy c.args.form c.args.text.now (passed_of c.args.passed.now) c.in_err-policy.field-0.0
+    c.in_err-policy.ensures in
+    search rules
+
+pub policy_of-requires : goal.policy_of-requires
+policy_of-requires c = record {
+  passed = texts-same (passed_of c.args.passed.now) _ _ c.as_slice.ensures.value c.in_ok-text.ensures.2;
+}

@@ -1,10 +1,10 @@
-use Rattle.std.proofs.Common.{◌≡◌, ◌∙◌, ◌==◌, ℕ, List, [], ◌∷◌, length, true, false, not, ◌&&◌, refl, sym, ap, rules}
-use Rattle.css_text.proofs.reading.EachLemmas.{took, each-some, each-none, not_empty}
+use Rattle.std.proofs.Common.{◌≡◌, ◌∙◌, ◌==◌, length, true, false, not, ◌&&◌, sym, ap, rules}
+use Rattle.css_text.proofs.reading.EachLemmas.{took, each-some, each-none}
 use Rattle.css_text.specs.Reading.{each}
 use Rattle.css_syntax.specs.DeclarationLists.{is_empty}
 use Rattle.css_clean.specs.Selectors.{next_selector}
 use Rattle.css_clean.specs.Views.{sheet_policy_of}
-use Rattle.css_clean.proofs.SelectorLemmas.{next_selector-takes}
+use Rattle.css_clean.proofs.SelectorLemmas.{next_selector-takes, empty-is}
 use Rattle.css_clean.proofs.selectors.is_list_written.Goals as goal
 
 pub selectors-smaller : goal.selectors-smaller
@@ -21,11 +21,6 @@ selectors-preserved c =
           ∙ ap (λ r. r.1) (each-some (next_selector policy true) (next_selector-takes policy true)
           c.selectors.rest.now c.in-Some.found.rest.now c.in-Some.found.text.now c.in-Some.ensures),
     )
-
--- a list that is empty by the number of its bytes
-empty-is : (text : List ℕ) → (length text == 0) ≡ is_empty text
-empty-is [] = refl
-empty-is (b ∷ text) = not_empty b text
 
 pub returns : goal.returns
 returns c =
