@@ -1,0 +1,4 @@
+pub mod Places
+pub mod Repeats
+pub mod Late
+pub mod Relations

@@ -1,4 +1,6 @@
 //! What is found in a sheet.
+ghost use Rattle.std.specs.Prelude.{◌≡◌};
+ghost use Rattle.css_lint.specs.Places.{place_of, sized as sized_of};
 
 use crate::kinds::Kind;
 use crate::vocabulary::Near;
@@ -40,7 +42,9 @@ pub struct Finding {
 
 impl Finding {
     /// Returns a finding of which it is not known what was meant.
-    pub fn new(kind: Kind, start: usize, end: usize) -> Finding {
+    pub fn new(kind: Kind, start: usize, end: usize) -> Finding
+        ensures { place_of result ≡ record { kind = kind; start = start; end = end } }
+    {
         Finding {
             kind,
             start,
@@ -48,6 +52,13 @@ impl Finding {
             meant: None,
             edit: None,
         }
+    }
+
+    /// Returns a finding from an offset on, of as many bytes.
+    pub fn sized(kind: Kind, start: usize, size: usize) -> Finding
+        ensures { place_of result ≡ sized_of kind start size }
+    {
+        Finding::new(kind, start, start.saturating_add(size))
     }
 
     /// Returns a finding that another text corrects.

@@ -1,4 +1,6 @@
 //! The kinds of what is found, each in words.
+ghost use Rattle.std.specs.Prelude.{◌≡◌};
+ghost use Rattle.css_lint.specs.Places.{is_related as is_related_of};
 
 /// How bad it is.
 #[derive(Clone, Copy)]
@@ -203,6 +205,20 @@ impl Severity {
 }
 
 impl Kind {
+    /// Whether the findings of the kind are a relation of places, which has a definition. The others are guesses.
+    pub fn is_related(self) -> bool
+        ensures { result ≡ is_related_of self }
+    {
+        matches!(
+            self,
+            Kind::LateCharset
+                | Kind::LateImport
+                | Kind::LateNamespace
+                | Kind::RepeatedImport
+                | Kind::RepeatedRule
+        )
+    }
+
     /// Returns what the kind is.
     pub fn about(self) -> About {
         match self {

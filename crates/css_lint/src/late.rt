@@ -1,109 +1,172 @@
-//! Statements of a sheet that are too late, and what is there again.
+//! The rules of a sheet that are too late to count.
+ghost use Rattle.std.specs.Prelude.{◌≡◌, ◌++◌, ◌||◌, ℕ, IfOk, OnOk, false, map, length};
+ghost use Rattle.std.specs.BTreeSet.{contains};
+ghost use Rattle.std.specs.List.{list_any};
+ghost use Rattle.std.specs.Ordering.{nat_cmp};
+ghost use Rattle.css_syntax.specs.Tokens.{spells as spells_of};
+ghost use Rattle.css_syntax.specs.Views.{at_rule_of, statement_of};
+ghost use Rattle.css_sheet.specs.ImportViews.{import_of};
+ghost use Rattle.css_sheet.specs.ReaderViews.{condition_at, level_of};
+ghost use Rattle.css_sheet.specs.SheetItems.{sheet_items};
+ghost use Rattle.css_lint.specs.Late.{ends_front as ends_front_of, is_block_rule as is_block_rule_of};
+ghost use Rattle.css_lint.specs.Late.{is_in_force, is_some_around, is_statement as is_statement_of, late_from};
+ghost use Rattle.css_lint.specs.Late.{late_in, late_kind as late_kind_of, place_if};
+ghost use Rattle.css_lint.specs.Places.{place_of};
 
+use crate::findings::Finding;
 use crate::kinds::Kind;
-use crate::linter::Linter;
-use crate::met::{is_met, push_words};
-use crate::texts::Piece;
-use css_sheet::{Import, ImportLayer, ImportUrl, read_imports};
-use css_syntax::AtRule;
+use css_sheet::{Import, Level, SheetReader};
+use css_syntax::texts::spells;
+use css_syntax::{AtRule, Statement};
 use std::alloc::{AllocError, Global};
-use std::collections::BTreeMap;
+use std::collections::BTreeSet;
 
-/// Returns what an import says, without the words around it.
-fn import_key(alloc: Global, import: &Import<'_>) -> Result<String, AllocError> {
-    let mut key = String::new(alloc);
-    match import.url {
-        ImportUrl::Quoted(text) => key.push_str(text)?,
-        ImportUrl::Bare(text) => key.push_str(text)?,
-    }
-    match import.layer {
-        ImportLayer::Unlayered => key.push('\n')?,
-        ImportLayer::Anonymous => key.push_str("\nlayer\n")?,
-        ImportLayer::Named(name) => {
-            key.push_str("\nlayer(")?;
-            push_words(&mut key, name)?;
-            key.push('\n')?;
-        }
-    }
-    push_words(&mut key, import.supports.unwrap_or(""))?;
-    key.push('\n')?;
-    push_words(&mut key, import.media)?;
-    Ok(key)
+/// The at-rules whose blocks browsers know, but those with statements in them.
+const BLOCK_RULES: [&str; 13] = [
+    "counter-style",
+    "font-face",
+    "font-feature-values",
+    "font-palette-values",
+    "function",
+    "keyframes",
+    "-webkit-keyframes",
+    "page",
+    "position-try",
+    "property",
+    "scope",
+    "starting-style",
+    "view-transition",
+];
+
+/// Whether a name is one of these keywords.
+fn is_one_of(keywords: &[&str], name: &str) -> bool
+    ensures { result ≡ list_any (λ keyword. spells_of keyword.now name.now) keywords.now }
+{
+    keywords.iter().any(|keyword| spells(keyword, name))
 }
 
-/// The statements that are before others.
-#[derive(Drop)]
-pub(crate) struct Order {
-    /// The offsets of the imports that are in force, the last one first.
-    imports: Vec<usize>,
-    /// Whether a rule was met that no `@namespace` may follow.
-    has_rule: bool,
+/// Whether browsers know the block of an at-rule with this name.
+fn is_block_rule(name: &str) -> bool
+    ensures { result ≡ is_block_rule_of name.now }
+{
+    is_one_of(&BLOCK_RULES, name)
 }
 
-impl Order {
-    /// Returns that of a sheet before its first statement.
-    pub(crate) fn new<'t>(linter: &mut Linter<'t>, text: &'t str) -> Result<Order, AllocError> {
-        let mut imports = Vec::new(linter.alloc);
-        if text.contains('@') {
-            let mut met = BTreeMap::new(linter.alloc);
-            for import in &read_imports(linter.alloc, text)? {
-                imports.push(import.start)?;
-                if is_met(&mut met, import_key(linter.alloc, import)?)? {
-                    let end = import.start.saturating_add(import.size);
-                    linter.report(Kind::RepeatedImport, import.start, end)?;
-                }
-            }
-            imports.reverse();
-        }
-        Ok(Order {
-            imports,
-            has_rule: false,
-        })
+/// Whether a statement is a rule that no `@namespace` may follow.
+fn ends_front(statement: &Statement<'_>) -> bool
+    ensures { result ≡ ends_front_of (statement_of statement.now) }
+{
+    match statement {
+        Statement::RuleSet(_) => true,
+        Statement::AtRule(rule) => match &rule.block {
+            Some(_) => is_block_rule(rule.name),
+            None => false,
+        },
+        Statement::Skipped(_) => false,
     }
+}
 
-    /// Takes note of a rule that no `@import` and no `@namespace` may follow.
-    pub(crate) fn meet_rule(&mut self) {
-        self.has_rule = true;
+/// Whether an at-rule has this name and no block.
+fn is_statement(keyword: &str, rule: &AtRule<'_>) -> bool
+    ensures { result ≡ is_statement_of keyword.now (at_rule_of rule.now) }
+{
+    match &rule.block {
+        Some(_) => false,
+        None => spells(keyword, rule.name),
     }
+}
 
-    /// Reports an at-rule of a sheet that is too late, and takes note of it.
-    pub(crate) fn meet_at_rule(
-        &mut self,
-        linter: &mut Linter<'_>,
-        rule: &AtRule<'_>,
-        piece: Piece<'_>,
-    ) -> Result<(), AllocError> {
-        let (start, end) = (piece.start(), piece.end);
-        if rule.block.is_some() {
-            self.has_rule = self.has_rule || linter.knows_at_rule(rule.name)?;
-        } else if rule.name.eq_ignore_ascii_case("charset") {
-            if start > 0 {
-                linter.report(Kind::LateCharset, start, end)?;
-            }
-        } else if rule.name.eq_ignore_ascii_case("namespace") {
-            if self.has_rule {
-                linter.report(Kind::LateNamespace, start, end)?;
-            }
-        } else if rule.name.eq_ignore_ascii_case("import") {
-            self.meet_import(linter, start, end)?;
-        }
-        Ok(())
-    }
-
-    /// Reports an import that is not in force.
-    fn meet_import(
-        &mut self,
-        linter: &mut Linter<'_>,
-        start: usize,
-        end: usize,
-    ) -> Result<(), AllocError> {
-        if self.imports.last().copied() == Some(start) {
-            self.imports.pop();
-            Ok(())
-        } else if start > 0 {
-            linter.report(Kind::LateImport, start, end)
+/// Returns what is too late of an at-rule that begins at an offset, which an import in force does or does
+/// not, and which follows a rule or does not.
+fn late_kind(in_force: bool, follows: bool, rule: &AtRule<'_>, start: usize) -> Option<Kind>
+    ensures { result ≡ late_kind_of in_force follows (at_rule_of rule.now) start }
+{
+    if is_statement("namespace", rule) {
+        if follows {
+            Some(Kind::LateNamespace)
         } else {
-            Ok(())
+            None
+        }
+    } else if start == 0 {
+        None
+    } else if is_statement("charset", rule) {
+        Some(Kind::LateCharset)
+    } else if is_statement("import", rule) && !in_force {
+        Some(Kind::LateImport)
+    } else {
+        None
+    }
+}
+
+/// Appends a statement that begins at an offset and has as many bytes, if it is too late.
+fn push_late(
+    found: &mut Vec<Finding>,
+    in_force: bool,
+    follows: bool,
+    statement: &Statement<'_>,
+    start: usize,
+    size: usize,
+) -> Result<(), AllocError>
+    ensures { OnOk result (map place_of found.new.items ≡ map place_of found.old.items
+        ++ place_if start size (late_in in_force follows (statement_of statement.now) start)) }
+{
+    if let Statement::AtRule(rule) = statement {
+        if let Some(kind) = late_kind(in_force, follows, rule, start) {
+            found.push(Finding::sized(kind, start, size))?;
         }
     }
+    Ok(())
+}
+
+/// Whether an item follows a rule, if it is not in group rules, which are rules.
+fn follows_at(follows: bool, levels: &[Level<'_>]) -> bool
+    ensures { result ≡ (follows
+        || is_some_around (map (λ level. condition_at (level_of level)) levels.now)) }
+{
+    follows || !levels.is_empty()
+}
+
+/// Whether what is after a statement follows a rule, where the statement does or does not.
+fn follows_after(follows: bool, statement: &Statement<'_>) -> bool
+    ensures { result ≡ (follows || ends_front_of (statement_of statement.now)) }
+{
+    follows || ends_front(statement)
+}
+
+/// Returns the offsets at which imports begin.
+fn starts_of(alloc: Global, imports: &[Import<'_>]) -> Result<BTreeSet<usize>, AllocError>
+    ensures { (start : ℕ) → IfOk result (λ starts. contains nat_cmp starts start
+        ≡ is_in_force (map import_of imports.now) start) }
+{
+    let mut starts = BTreeSet::new(alloc);
+    let mut left = imports;
+    'imports: while let [import, others @ ..] = left {
+        starts.insert(import.start)?;
+        left = others;
+    }
+    Ok(starts)
+}
+
+/// Returns the rules of a sheet that are too late, in order, where these imports are in force.
+#[tactic(auto, using(crate::proofs::LateLemmas::late_more))]
+pub(crate) fn late_rules(
+    alloc: Global,
+    text: &str,
+    imports: &[Import<'_>],
+) -> Result<Vec<Finding>, AllocError>
+    ensures { IfOk result (λ found. map place_of found.items
+        ≡ late_from (map import_of imports.now) false (sheet_items text.now)) }
+{
+    let starts = starts_of(alloc, imports)?;
+    let mut found = Vec::new(alloc);
+    let mut reader = SheetReader::new(alloc, text);
+    let mut follows = false;
+    'items: while let Some(part) = reader.read_next()? {
+        let (start, size) = (reader.places().start, part.text.len());
+        let in_force = starts.contains(&start);
+        let is_inner = follows_at(follows, reader.levels());
+        push_late(&mut found, in_force, is_inner, &part.statement, start, size)?;
+        follows = follows_after(is_inner, &part.statement);
+    }
+    Ok(found)
 }

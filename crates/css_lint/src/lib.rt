@@ -3,6 +3,10 @@
 //! Every text is looked through, in time and memory linear in its length times the number of names that are known.
 #![tactic(auto)]
 
+ghost use Rattle.std.specs.Prelude.{[], IfOk};
+ghost use Rattle.css_lint.specs.Places.{AreFindings};
+ghost use Rattle.css_lint.specs.Relations.{related_places};
+
 mod blocks;
 mod data;
 mod declarations;
@@ -15,7 +19,9 @@ mod linter;
 mod met;
 mod preludes;
 mod references;
+mod relations;
 mod repeated;
+mod repeats;
 mod selectors;
 mod sheets;
 mod shorthands;
@@ -29,16 +35,22 @@ pub use findings::{Edit, Finding, Meant};
 pub use kinds::{About, KINDS, Kind, Severity};
 pub use known_values::{Known, KnownValues, takes_value};
 use linter::Linter;
+use relations::{push_guesses, related};
 use std::alloc::{AllocError, Global};
 use texts::Piece;
 pub use vocabulary::{Names, Near, Vocabulary};
 
-/// Returns the mistakes of a style sheet, and if that is asked for, what is valid and not supported. They are in the order
-/// in which they were found. Fails only if an allocation fails.
-pub fn lint_sheet(alloc: Global, text: &str, shows_all: bool) -> Result<Vec<Finding>, AllocError> {
+/// Returns the mistakes of a style sheet, and if that is asked for, what is valid and not supported. First are those that
+/// are relations of places, each exactly as defined, and then guesses in the order in which they were found. Fails only if
+/// an allocation fails.
+pub fn lint_sheet(alloc: Global, text: &str, shows_all: bool) -> Result<Vec<Finding>, AllocError>
+    ensures { IfOk result (λ found. AreFindings (related_places text.now) found.items) }
+{
     let mut linter = Linter::new(alloc, shows_all)?;
     linter.sheet(text)?;
-    Ok(linter.found)
+    let mut found = related(alloc, text)?;
+    push_guesses(&mut found, &linter.found)?;
+    Ok(found)
 }
 
 /// Returns the mistakes of a style attribute, as [`lint_sheet`] does.
@@ -46,12 +58,16 @@ pub fn lint_attribute(
     alloc: Global,
     text: &str,
     shows_all: bool,
-) -> Result<Vec<Finding>, AllocError> {
+) -> Result<Vec<Finding>, AllocError>
+    ensures { IfOk result (λ found. AreFindings [] found.items) }
+{
     let mut linter = Linter::new(alloc, shows_all)?;
     let piece = Piece {
         text,
         end: text.len(),
     };
     linter.rule_block(piece, false)?;
-    Ok(linter.found)
+    let mut found = Vec::new(alloc);
+    push_guesses(&mut found, &linter.found)?;
+    Ok(found)
 }

@@ -128,10 +128,4 @@ impl<'t> Linter<'t> {
         self.numbered = number.saturating_add(1);
         Ok(number)
     }
-
-    /// Whether an at-rule of this name is known.
-    pub(crate) fn knows_at_rule(&self, name: &str) -> Result<bool, AllocError> {
-        let lower = name.to_ascii_lowercase(self.alloc)?;
-        Ok(self.words.at_rules.knows(lower.as_str()))
-    }
 }

@@ -3,9 +3,7 @@
 use crate::blocks::{PlacedRule, is_among, is_declaring, placed_rule};
 use crate::findings::Finding;
 use crate::kinds::Kind;
-use crate::late::Order;
 use crate::linter::Linter;
-use crate::met::{Met, is_met, push_words};
 use crate::texts::{
     Opening, Piece, after_bytes, ends_empty, first_bytes, is_open, is_sign, place_in, size_of,
     without_spaces_after,
@@ -22,7 +20,6 @@ use css_syntax::texts::spells;
 use css_syntax::tokenizer::read_next;
 use css_syntax::{Fault, Item, RuleSet, SheetPart, Statement, TokenKind};
 use std::alloc::AllocError;
-use std::collections::BTreeMap;
 
 /// The at-rules with keyframes.
 const KEYFRAMES: &str = "keyframes -webkit-keyframes -moz-keyframes -o-keyframes -ms-keyframes";
@@ -429,51 +426,6 @@ impl<'t> Linter<'t> {
         Ok(())
     }
 
-    /// Reports a statement of a sheet that is too late. It is in the group rule that begins before this offset, or in none.
-    fn order_of(
-        &mut self,
-        order: &mut Order,
-        part: &SheetPart<'t>,
-        places: Places,
-        group: usize,
-    ) -> Result<(), AllocError> {
-        if group > 0 {
-            order.meet_rule();
-        }
-        let piece = Piece {
-            text: part.text,
-            end: places.start.saturating_add(part.text.len()),
-        };
-        match &part.statement {
-            Statement::RuleSet(_) => {
-                order.meet_rule();
-                Ok(())
-            }
-            Statement::AtRule(rule) => order.meet_at_rule(self, rule, piece),
-            Statement::Skipped(_) => Ok(()),
-        }
-    }
-
-    /// Reports a rule whose selectors are those of one before it in the same group rule.
-    fn repeated_rule(
-        &mut self,
-        met: &mut Met,
-        part: &SheetPart<'t>,
-        places: Places,
-        group: usize,
-    ) -> Result<(), AllocError> {
-        let Statement::RuleSet(rule) = &part.statement else {
-            return Ok(());
-        };
-        let mut key = format!(in self.alloc; "{group} ")?;
-        push_words(&mut key, rule.prelude.text)?;
-        if is_met(met, key)? {
-            let end = places.prelude.saturating_add(rule.prelude.text.len());
-            self.report(Kind::RepeatedRule, places.prelude, end)?;
-        }
-        Ok(())
-    }
-
     /// Reports the mistakes of a sheet.
     pub(crate) fn sheet(&mut self, text: &'t str) -> Result<(), AllocError> {
         let sheet = Piece {
@@ -485,8 +437,6 @@ impl<'t> Linter<'t> {
         let names = declared.names();
         self.has_namespace = names.default_namespace.is_some();
         let mut reader = SheetReader::new(self.alloc, text);
-        let mut order = Order::new(self, text)?;
-        let mut met = BTreeMap::new(self.alloc);
         let mut heads: Vec<Head> = Vec::new(self.alloc);
         let (mut past, mut group, mut last) = (0usize, 0usize, 0usize);
         for _ in 0..text.len() {
@@ -512,9 +462,6 @@ impl<'t> Linter<'t> {
                     self.group(level)?;
                 }
             }
-            let group_start = heads.last().map_or(0, |head| head.start.saturating_add(1));
-            self.order_of(&mut order, &part, places, group_start)?;
-            self.repeated_rule(&mut met, &part, places, group_start)?;
             self.statement(sheet, &names, &part, places)?;
             past = past.max(end);
         }

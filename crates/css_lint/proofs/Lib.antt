@@ -1,0 +1,2 @@
+pub mod LateLemmas
+pub mod RepeatLemmas
