@@ -1,0 +1,4 @@
+mod GatherLemmas
+mod OrderLemmas
+mod CriterionLemmas
+mod LawLemmas
