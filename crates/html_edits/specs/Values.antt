@@ -1,0 +1,36 @@
+-- How a value is written in quotes.
+use Rattle.std.specs.Prelude.{ℕ, ◌+◌, ◌/◌, ◌%◌, Bool, not, nat_lt, ◌||◌, ◌&&◌, ◌==◌, if◌then◌else◌, List, [], ◌∷◌, ◌++◌, codes}
+use Rattle.css_text.specs.AsciiBytes.{double_quote}
+use Rattle.css_html.specs.Decoding.{ampersand}
+use Rattle.css_html.specs.Marks.{less_than_sign}
+
+-- `'`
+abbrev pub single_quote : ℕ
+single_quote = 39
+
+-- A control character but for those that are spaces. A return is one, which HTML would read as a newline.
+abbrev pub is_control : ℕ → Bool
+is_control b = b == 127 || (nat_lt b 32 && (not (b == 9) && (not (b == 10) && not (b == 12))))
+
+-- a digit, if the number has it
+abbrev pub digit_of : (b least : ℕ) → List ℕ
+digit_of b least = if nat_lt b least then [] else (48 + b / least % 10) ∷ []
+
+-- a byte as a reference by its number
+abbrev pub number_reference : ℕ → List ℕ
+number_reference b =
+    38 ∷ 35 ∷ digit_of b 100 ++ (digit_of b 10 ++ ((48 + b % 10) ∷ 59 ∷ []))
+
+-- a byte as it is written between these quotes
+abbrev pub escaped_byte : (quote b : ℕ) → List ℕ
+escaped_byte quote b =
+    if b == ampersand then codes "&amp;"
+    else (if b == less_than_sign then codes "&lt;"
+    else (if b == double_quote && b == quote then codes "&quot;"
+    else (if b == single_quote && b == quote then codes "&#39;"
+    else (if is_control b then number_reference b else b ∷ []))))
+
+-- a value as it is written between these quotes
+abbrev pub escaped_value : (quote : ℕ) → List ℕ → List ℕ
+escaped_value quote [] = []
+escaped_value quote (b ∷ value) = escaped_byte quote b ++ escaped_value quote value
