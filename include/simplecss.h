@@ -161,6 +161,7 @@ typedef struct simplecss_tree {
                                      not between two characters. At one more than the number of
                                      elements: there are strings, or bytes, that no element has */
 #define SIMPLECSS_REPEATED_KEY 4u /* two attributes have one key */
+#define SIMPLECSS_OTHER_TREE 5u   /* with the edits of this start tag the page would have another tree */
 
 /* A device, which media queries ask about. */
 typedef struct simplecss_device {
@@ -430,6 +431,35 @@ uint32_t simplecss_html(const uint8_t *text, size_t text_len, size_t space,
                         const uint8_t *context, size_t context_len, size_t flags,
                         size_t *out, size_t out_size, size_t *len,
                         uint8_t *strings, size_t strings_size, size_t *strings_len);
+
+/* Writes a page in HTML with edits, and every other byte as it is. Each edit has three numbers and two strings. The strings are
+ * in `strings`, one after another, and `ends` has where each ends. A mark of the order of bytes at the front is no part of the
+ * page. A tag is the index of a start tag of the page, from 0, as simplecss_html writes them; a place is an offset. The edits are
+ * in order of their places, and those of a tag's attributes one after another:
+ *   SIMPLECSS_EDIT_SET       tag 0      name value   the attribute has the value
+ *   SIMPLECSS_EDIT_BEFORE    tag 0      name value   the attribute has the value before its own
+ *   SIMPLECSS_EDIT_REMOVE    tag 0      name ""      the attribute is removed
+ *   SIMPLECSS_EDIT_TEXT      tag place  "" text      what is between the tag of a `style` element and the place becomes the text
+ *   SIMPLECSS_EDIT_PUT_IN    place 0    "" text      a `style` element with the text is put in at the place
+ *   SIMPLECSS_EDIT_TAKE_OUT  tag place  "" ""        the `link` or the `style` element with this tag, which ends at the place, is
+ *                                                    taken out
+ *   SIMPLECSS_EDIT_REPLACE   tag place  "" text      a `style` element with the text takes its place
+ * Names are in lower case, and values and texts are those that a browser reads: values are escaped. The page with the edits is
+ * read again. The tree of it is the same but for `style` elements and links, each attribute that is set has exactly its value,
+ * and the others are as they were. Else the answer is SIMPLECSS_TREE_FAULT: `fault->fault` is SIMPLECSS_OTHER_TREE, and
+ * `fault->element` the number of a tag, from 1, whose edits are at fault, or of one near it. SIMPLECSS_REFUSED means that the
+ * edits are out of order, one is where it cannot be, or a text would end its `style` element. Time and memory grow as the page
+ * and the edits, and for each tag as its attributes times its changes. */
+#define SIMPLECSS_EDIT_SET 1
+#define SIMPLECSS_EDIT_BEFORE 2
+#define SIMPLECSS_EDIT_REMOVE 3
+#define SIMPLECSS_EDIT_TEXT 4
+#define SIMPLECSS_EDIT_PUT_IN 5
+#define SIMPLECSS_EDIT_TAKE_OUT 6
+#define SIMPLECSS_EDIT_REPLACE 7
+uint32_t simplecss_html_edit(const uint8_t *text, size_t text_len, const size_t *edits, size_t edits_count,
+                             const uint8_t *strings, size_t strings_len, const size_t *ends, size_t ends_count,
+                             uint8_t *out, size_t out_size, size_t *len, simplecss_tree_fault *fault);
 
 /* Writes what says in which encoding a page is, a tab and the encoding's name, as of the Encoding Standard: "mark" for a mark of
  * the order of bytes at its front, "label" for the label that comes with it, as from a server, "meta" or "declaration" for a
@@ -720,6 +750,21 @@ uint32_t simplecss_winners_named(const simplecss_sheets *sheets, size_t grammar,
 uint32_t simplecss_matches(const simplecss_sheets *sheets, size_t grammar, size_t limit,
                            const simplecss_tree *tree, size_t most,
                            size_t *out, size_t out_size, size_t *len, simplecss_tree_fault *fault);
+
+/* Explains which declaration of a property wins on an element: writes three numbers for each that applies to it, the
+ * strongest first. The first two are where it is and how many declarations are before it there, as in
+ * simplecss_winners. The third is the criterion of CSS Cascading 5, section 6.1, by which it loses to the one before
+ * it: 0 of the first, 1 importance and origin, 2 the `style` attribute, 3 layers, 4 specificity, 5 the order in which
+ * they stand. `matching` are the indices of the rules that match the element, as simplecss_matches writes them: each
+ * is greater than the one before it, or the call is refused; indices past the last rule match nothing. `own` has the
+ * two texts of the element, and `names` the names of the property, such as a longhand and the shorthands that set it.
+ * A declaration that is `revert` or `revert-layer` is one of them: if it is the first, simplecss_winners_named says
+ * which wins. The time grows as n log n of the declarations of these rules and of its own, and as those times the
+ * names. */
+uint32_t simplecss_explain(const simplecss_sheets *sheets, size_t limit,
+                           const size_t *matching, size_t matching_count, const simplecss_own *own,
+                           const uint8_t *names, size_t names_len, const size_t *ends, size_t ends_count,
+                           size_t *out, size_t out_size, size_t *len);
 
 /* Writes five numbers for each token of a text (CSS Syntax Module Level 3, section 4): its kind, where it begins
  * and ends, and where what is in it begins and ends. That is the text of a string between its quotes, a url without

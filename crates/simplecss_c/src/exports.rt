@@ -19,6 +19,7 @@ ghost use Rattle.sheet_calls.specs.Linting.{IsLintCall};
 ghost use Rattle.sheet_calls.specs.PrintedSheets.{IsPrintCall};
 ghost use Rattle.call_answers.specs.SheetNumbers.{IsReadCall};
 ghost use Rattle.simplecss_calls.specs.WinnerNumbers.{IsRulesCall, IsNumbersCall, sheets_of};
+ghost use Rattle.explain_calls.specs.ExplainNumbers.{IsExplainCall};
 ghost use Rattle.simplecss_calls.specs.declared.contents.ElementContent.TheVariants.{Winners, Named, Matches};
 ghost use Rattle.simplecss_calls.specs.RuleTexts.{IsRuleTextsCall};
 ghost use Rattle.sheet_calls.specs.Spellings.{IsDecodeCall, IsEscapeCall, IsQuoteCall};
@@ -33,6 +34,7 @@ use call_answers::answer::{
 };
 use call_answers::elements::PassedTree;
 use css_values::{INHERITED, LOGICAL, SHORTHANDS};
+use explain_calls::explaining;
 use port_calls::port;
 use sheet_calls::conditions::DeviceNumbers;
 use sheet_calls::{conditions, imports, lint, printing, sheet_contents, spellings, tokens, values};
@@ -389,6 +391,28 @@ pub extern "C" fn simplecss_matches(
     let content = ElementContent::Matches;
     let outcome = element_numbers::numbers(alloc, content, *sheets, grammar, limit, *tree, most);
     hand_over_numbers_of_tree(outcome, out, len, fault)
+}
+
+/// Writes three numbers of each declaration of a property that applies to an element, the strongest first: of where
+/// it is and of its place there, as [`simplecss_winners`] writes them, and of the criterion by which it loses to the
+/// one before it.
+#[unsafe(no_mangle)]
+pub extern "C" fn simplecss_explain(
+    alloc: Global,
+    sheets: &Sheets<'_>,
+    limit: usize,
+    matching: &[usize],
+    own: &OwnTexts<'_>,
+    names: &[u8],
+    ends: &[usize],
+    out: &mut [usize],
+    len: &mut usize,
+) -> u32
+    ensures { IsAnswered (IsExplainCall limit (sheets_of sheets.now) matching.now own.now names.now ends.now)
+        result out.old out.new len.new }
+{
+    let outcome = explaining::explain(alloc, *sheets, limit, matching, *own, names, ends);
+    hand_over_numbers(outcome, out, len)
 }
 
 /// Writes what a list of media queries says on a device: `true`, `false` or `unknown`. It holds if that is

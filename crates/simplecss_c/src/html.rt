@@ -1,20 +1,26 @@
 //! HTML pages as numbers and strings, and their encodings.
 
-ghost use Rattle.std.specs.Prelude.{IfOk, length};
+ghost use Rattle.std.specs.Prelude.{◌≡◌, IfOk, length};
 ghost use Rattle.html_calls.specs.Pages.{ArePageNumbers, past_mark};
 ghost use Rattle.call_answers.specs.Answers.{IsAnswered};
 ghost use Rattle.call_answers.specs.Outcomes.{outcome_of};
-ghost use Rattle.simplecss_c.specs.HtmlCalls.{IsHtmlCall, IsEncodingCall};
+ghost use Rattle.simplecss_c.specs.HtmlCalls.{IsHtmlCall, IsEditCall, IsEncodingCall};
 
-use call_answers::answer::{CallError, copy_whole, hand_over};
+use call_answers::answer::{CallError, TreeFault, copy_whole, hand_over};
 use call_answers::texts::text_of;
 use css_html_tree::page::{Fault, Options};
+use edit_calls::calls::edit;
 use html_calls::pages::{Answer, Reading, context_of, read};
+use html_edits::edits::Refusal;
 use html_encodings::page::{encoding_of_page, line_of};
 use std::alloc::Global;
 
 /// The status of a call whose answer is longer than the buffer.
 const TOO_SMALL: u32 = 6;
+/// The status of a call whose text is not UTF-8.
+const NOT_UTF8: u32 = 5;
+/// The number of the fault of a page that would have another tree.
+const OTHER_TREE: u32 = 5;
 /// The flags of how a page is read: scripts run, and what is in templates is left out.
 const HAS_SCRIPTS: usize = 1;
 
@@ -79,6 +85,46 @@ pub extern "C" fn simplecss_html(
         strings[..answer.strings.len()].copy_from_slice(answer.strings.as_slice());
     }
     status
+}
+
+/// Returns the status of a refusal, and sets the number of the tag that it names, from 1.
+fn status_of(refusal: Refusal, fault: &mut TreeFault) -> u32
+    ensures { ¬ (result ≡ 0) }
+{
+    match refusal {
+        Refusal::Misplaced => 1,
+        Refusal::Differs(index) => {
+            fault.fault = OTHER_TREE;
+            fault.element = index.saturating_add(1);
+            2
+        }
+        Refusal::Memory => 3,
+        Refusal::TooDeep => 4,
+    }
+}
+
+/// Writes an HTML page with edits, each of which has three numbers and two strings.
+#[unsafe(no_mangle)]
+pub extern "C" fn simplecss_html_edit(
+    alloc: Global,
+    text: &[u8],
+    edits: &[usize],
+    strings: &[u8],
+    ends: &[usize],
+    out: &mut [u8],
+    len: &mut usize,
+    fault: &mut TreeFault,
+) -> u32
+    ensures { IsEditCall text.now result out.old out.new len.new }
+{
+    *len = 0;
+    if text_of(text).is_err() || text_of(strings).is_err() {
+        return NOT_UTF8;
+    }
+    match edit(alloc, text, edits, strings, ends) {
+        Ok(page) => copy_whole(page.as_slice(), out, len),
+        Err(refusal) => status_of(refusal, fault),
+    }
 }
 
 /// Returns what says in which encoding a page is, a tab and the encoding's name.
