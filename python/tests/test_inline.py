@@ -2,6 +2,7 @@
 
 import json
 import os
+import random
 import re
 import sys
 import tempfile
@@ -606,6 +607,57 @@ class Injection(unittest.TestCase):
         ):
             with self.assertRaises(ValueError, msg=css):
                 inline("<p>", css)
+
+
+class SameTree(unittest.TestCase):
+    """HTML compares the attributes of formatting elements where tags are nested wrongly."""
+
+    def shape(self, page):
+        """Returns the names and the depths of the elements of a page, without `style`."""
+        tree = Tree.from_html(page)
+        depths = []
+        for element in tree:
+            depths.append(0 if element.parent is None else depths[element.parent.index] + 1)
+        return [
+            (element.name, depth) for element, depth in zip(tree, depths) if element.name != "style"
+        ]
+
+    def test_a_style_that_would_change_the_tree_is_left_in_the_sheet(self):
+        """In Chromium the second text is not red: it is in three elements."""
+        page = "<!DOCTYPE html><p><b><b><b><b>x</p><p>y</p>"
+        sheet = "<style>\nb b b b { color: red }\n</style>"
+        report = []
+        got = inline(page, "b b b b {color: red}", report=report)
+        self.assertEqual(got, page.replace("<p>", sheet + "<p>", 1))
+        self.assertEqual([each.text for each in report], ["b b b b"])
+
+    def test_classes_that_keep_the_tree_stay(self):
+        """In Chromium the second text is as small as the first one: it is in four elements."""
+        tags = "".join(f"<small class={name}>" for name in "abcd")
+        page = f"<!DOCTYPE html><p>{tags}x</p><p>y</p>"
+        got = inline(page, "p { top: 0 }", remove_classes=True)
+        self.assertEqual(self.shape(got), self.shape(page))
+        self.assertEqual(got.count("class="), 1)
+
+    def test_random_pages(self):
+        chance = random.Random(7)
+        tags = "b i a small font p div table td em span u nobr".split()
+        css = ".x { color: red } b b, i + b { top: 0 } p > small.y { left: 0 } td, a { right: 0 }"
+        for _ in range(300):
+            parts = []
+            for _ in range(chance.randrange(4, 30)):
+                name = chance.choice(tags)
+                words = ("", " class=x", " class='y z'", " style=top:0", " class=x title=a")
+                parts.append(
+                    chance.choice(("</%s>", "<%s%s>", "<%s%s>"))
+                    .replace("%s", name, 1)
+                    .replace("%s", chance.choice(words))
+                    + chance.choice(("", "t"))
+                )
+            page = "<!DOCTYPE html>" + "".join(parts)
+            for options in ({}, {"remove_classes": True}):
+                with self.subTest(page=page, options=options):
+                    self.assertEqual(self.shape(inline(page, css, **options)), self.shape(page))
 
 
 class Spaces(unittest.TestCase):

@@ -205,6 +205,68 @@ class Mistakes(unittest.TestCase):
             found = [each.text for each in simplecss.lint(text) if each.kind == kind]
             self.assertEqual(found, [expected], text)
 
+    def test_late_rules(self):
+        # CSS Cascading 5, section 2; CSS Namespaces 3, section 3; CSS Syntax 3, section 3.2.
+        for text, expected in (
+            ("@charset 'x'; @layer a; @import 'b'; @namespace 'c'; d { top: 0 }", []),
+            ("@import 'a'; @namespace b 'c'; @import 'd';", ["@import 'd';"]),
+            ("@import 'a'; @layer b; @import 'c';", ["@import 'c';"]),
+            ("@layer a; @namespace 'b';", []),
+            ("@import 'a'; @foo { } @import 'b'; @namespace 'c';", []),
+            (
+                "@font-face { src: url(a) } @import 'b'; @namespace 'c';",
+                ["@import 'b';", "@namespace 'c';"],
+            ),
+            ("@media print { @import 'a'; } ", ["@import 'a';"]),
+            (
+                "@media print { @namespace 'a'; b { top: 0 } } @namespace 'c';",
+                ["@namespace 'a';", "@namespace 'c';"],
+            ),
+            (
+                "a { top: 0 } @CHARSET 'x'; @\\69mport 'b'",
+                ["@CHARSET 'x';", "@\\69mport 'b'"],
+            ),
+        ):
+            found = [each.text for each in simplecss.lint(text) if each.kind.startswith("late-")]
+            self.assertEqual(found, expected, text)
+
+    def test_repeated_rules(self):
+        for text, kind, expected in (
+            (
+                "@import 'a'; @import url(a); @import 'a' print;",
+                "repeated-import",
+                ["@import url(a);"],
+            ),
+            (
+                "@import 'a' layer(x) screen  and (y); @import 'a' layer( x ) screen and (y);",
+                "repeated-import",
+                ["@import 'a' layer( x ) screen and (y);"],
+            ),
+            (
+                "@import 'a' layer; @import 'a'; b { top: 0 } @import 'a';",
+                "repeated-import",
+                [],
+            ),
+            (
+                "a  b { top: 0 } a b { left: 0 } a, b { top: 0 }",
+                "repeated-rule",
+                ["a b"],
+            ),
+            ("@media x { a { top: 0 } a { left: 0 } }", "repeated-rule", ["a"]),
+            (
+                "a { top: 0 } @media x { a { top: 0 } } @media x { a { top: 0 } }",
+                "repeated-rule",
+                [],
+            ),
+            (
+                "@layer x { a { top: 0 } @media y { a { top: 0 } } a { left: 0 } }",
+                "repeated-rule",
+                ["a"],
+            ),
+        ):
+            found = [each.text for each in simplecss.lint(text) if each.kind == kind]
+            self.assertEqual(found, expected, text)
+
     def test_style_attributes(self):
         found = _lint.findings("a.html", "<p style='colr: red; top: 0; top: 0'>")
         self.assertEqual([each.text for each in found], ["colr", "top: 0"])

@@ -25,6 +25,7 @@ if TYPE_CHECKING:
     from ._declaration import Declaration
     from ._device import Device
     from ._elements import TreeError
+    from ._explaining import Contender, Explanation, Place
     from ._found_names import Name
     from ._inline import Inliner, inline
     from ._library import (
@@ -59,11 +60,13 @@ __all__ = [
     "CSSSanitizer",
     "Cleaned",
     "Condition",
+    "Contender",
     "Declaration",
     "Device",
     "Difference",
     "Dropped",
     "Element",
+    "Explanation",
     "Finding",
     "Inliner",
     "InternalError",
@@ -72,6 +75,7 @@ __all__ = [
     "LimitError",
     "Name",
     "NotWritten",
+    "Place",
     "Policy",
     "Rule",
     "Selector",
@@ -118,6 +122,7 @@ if not TYPE_CHECKING:
         "_declaration": "Declaration",
         "_device": "Device",
         "_elements": "TreeError",
+        "_explaining": "Contender Explanation Place",
         "_found_names": "Name",
         "_inline": "Inliner inline",
         "_library": "InternalError LibraryError LimitError __version__ is_proved library_path",

@@ -246,6 +246,28 @@ def _compare(words: argparse.Namespace) -> int:
     return status or (REFUSED if found else DONE)
 
 
+def _explain_page(words: argparse.Namespace) -> int:
+    """Explains which declaration wins, on standard output or in a page of HTML."""
+    job: Job = words.job(words, sys.stdout.isatty() and words.html is None)
+    outcome = job(words.page)
+    _say_all(outcome)
+    if outcome.status != DONE:
+        return outcome.status
+    if words.html is None:
+        _write(outcome.output)
+    else:
+        _write_into(Path(words.html), outcome.output)
+    return DONE if outcome.found else REFUSED
+
+
+def _write_into(path: Path, output: bytes) -> None:
+    """Writes a file."""
+    try:
+        write_file(path, output)
+    except OSError as error:
+        raise Failure(f"cannot write {path}: {error.strerror}", UNREADABLE) from None
+
+
 def _inline(words: argparse.Namespace) -> int:
     pages, words.sheets = _parted(words.files, 0)
     return _write_each(words, pages, "pages")
@@ -501,6 +523,8 @@ def _parser() -> argparse.ArgumentParser:
     command = add("style", _style, _jobs.Style, text)
     _add_reading(command)
     command.usage = "simplecss style [OPTION..] [SHEET..] PAGE.. NAME"
+    text = "Explain which declaration of a property wins on elements, and by what others lose."
+    _add_explain(add("explain", _explain_page, _jobs.Explain, text))
     text = "Show the elements that a list of selectors matches."
     _add_select(add("select", _select, _jobs.Select, text))
     text = "Show the properties that two style sheets set differently on the elements of pages."
@@ -636,6 +660,22 @@ def _add_compare(command: Any) -> None:
     command.add_argument("new", metavar="NEW", help="the style sheet that it is compared with")
     text = "a page, folder or pattern"
     command.add_argument("pages", nargs="+", metavar="PAGE", help=text)
+
+
+def _add_explain(command: Any) -> None:
+    text = "a style sheet (default: those of the page)"
+    command.add_argument(
+        *("--sheet",), dest="sheets", action="append", default=[], metavar="FILE", help=text
+    )
+    command.add_argument("--html", metavar="FILE", help="write a page of HTML into a file")
+    text = "with what HTML and SVG suggest to browsers"
+    command.add_argument("--ua", action="store_true", help=text)
+    _add_folder(command)
+    _add_device(command)
+    command.set_defaults(grammar=MODERN)
+    command.add_argument("selectors", metavar="SELECTORS", help="a list, such as `a, b > c`")
+    command.add_argument("name", metavar="PROPERTY", help="a property, such as `color`")
+    command.add_argument("page", metavar="PAGE", help="a page")
 
 
 def _add_inline(command: Any) -> None:

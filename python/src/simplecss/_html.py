@@ -275,6 +275,10 @@ class HtmlPage:
         """Returns the numbers of the elements' namespaces."""
         return bytearray(iter(self._of_elements(3)))
 
+    def tag_numbers(self) -> List[int]:
+        """Returns the index of each element's start tag among those of the page, or -1."""
+        return [number - 1 for number in self._of_elements(0)]
+
     def tags(self) -> List[Span]:
         """Returns where the elements' start tags begin and end."""
         starts, ends = self._tag_places

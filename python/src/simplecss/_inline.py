@@ -27,6 +27,7 @@ from typing import (
 
 from . import _library as library
 from ._declaration import Declaration
+from ._edits import OtherTree
 from ._given import expect_css, expect_page
 from ._families import EVERYTHING, family_of, is_in
 from ._found_names import classes_in, pseudo_names
@@ -1001,11 +1002,19 @@ class Inliner:
             raise ValueError(
                 "browsers read the document in different ways: NUL, `search` or end tags"
             )
-        inliner = _PageInliner(page, self._prepared, at)
-        inliner.write()
+        while True:
+            inliner = _PageInliner(page, self._prepared, at)
+            inliner.write()
+            try:
+                text = page.edited()
+                break
+            except OtherTree as error:
+                # Elements where the tree would be another one are left in the sheet.
+                if not page.leave(error.tag):
+                    raise
         if report is not None:
             report.extend(inliner.not_written())
-        return page.edited()
+        return text
 
 
 def inline(

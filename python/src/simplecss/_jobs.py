@@ -9,12 +9,13 @@ import sys
 from pathlib import Path
 from typing import Any, Iterator, List, NamedTuple, Optional
 
-from . import _lint
+from . import _explained, _lint
 from ._clean import Cleaned, clean, clean_style, is_clean, is_clean_style
 from ._compare import compare
 from ._declaration import Declaration
 from ._device import Device
 from ._elements import TreeError
+from ._explaining import Explanation, Place
 from ._imports import LOSES
 from ._inline import inline
 from ._library import InternalError, LibraryError, LimitError, Room, most_written
@@ -22,7 +23,7 @@ from ._linked import Name, Shelf, Unread, sheets_of
 from ._minify import prettify, short_text
 from ._output import json_line, printable, printable_lines
 from ._selectors import SelectorError
-from ._sheet import StyleSheet, sheet_of_texts
+from ._sheet import StyleSheet, explaining_of, sheet_of_texts
 from ._split import NotWritten
 from ._tree import Element, Tree, elements_of
 from ._words import words_of
@@ -205,6 +206,54 @@ class Style(Job):
                 shown = printable(f"{element} {winner}")
                 self._write(f"{self._position(name, element)}: {shown}\n")
         return self._outcome(name)
+
+
+class Explain(Job):
+    """Explains which declaration of a property wins on the elements that selectors match."""
+
+    def _do(self, name: str) -> Outcome:
+        text = self._page(name)
+        tree = self._tree(name, text)
+        sheet = self._sheet(name, tree)
+        room = Room(most_written(len(text)), "characters")
+        words = self.words
+
+        every = list(self._explanations(sheet, tree))
+        if words.html is not None:
+            title = f"{words.name} of {words.selectors} in {name}"
+            self._write(_taken(room, _explained.as_page(every, title, self._shown_place)))
+        for each in every if words.html is None else ():
+            if words.json:
+                self._write(_taken(room, json_line(_explained.as_json(each, self._shown_place))))
+                continue
+            paint = _explained.coloured if self._has_colours else _explained.plain
+            head = name if each.element.row is None else _of_place(name, each.element)
+            self._write(_taken(room, _explained.as_text(each, head, self._shown_place, paint)))
+        return self._outcome(name, found=len(every))
+
+    @property
+    def _has_colours(self) -> bool:
+        """Whether text is written in colours."""
+        return self._is_terminal and not os.environ.get("NO_COLOR")
+
+    def _explanations(self, sheet: StyleSheet, tree: Tree) -> Iterator[Explanation]:
+        """Returns what explains the property on each element."""
+        words = self.words
+        try:
+            found = tree.select(words.selectors)
+        except SelectorError as error:
+            raise Failure(f"selector refused: {error.message}", REFUSED) from None
+        explaining = explaining_of(sheet, tree, words.name, self._device(), words.ua)
+        return map(explaining.explanation, found)
+
+    def _shown_place(self, place: Place) -> str:
+        """Returns the file, the row and the column of a declaration of a sheet: of a `style` element, in
+        that."""
+        if place.source is None:
+            return ""
+        sheets = self.words.sheets
+        file = sheets[place.source] if sheets else place.url or "<style>"
+        return f"{file}:{place.row}:{place.column}"
 
 
 class Select(Job):
@@ -481,6 +530,11 @@ def _taken(room: Room, text: str) -> str:
     """Returns a text that is written, if there is room for it."""
     room.take(len(text))
     return text
+
+
+def _of_place(name: str, element: Element) -> str:
+    """Returns `file:row:column` of an element."""
+    return f"{name}:{element.row}:{element.column}"
 
 
 def _described(name: str, element: Element, places: List[int]) -> "dict[str, Any]":

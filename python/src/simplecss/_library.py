@@ -179,8 +179,8 @@ class SheetArrays:
         origins of the sheets, and those of the group rules that each sheet is in. No namespaces are
         known."""
         ends, group_ends = ends_of(map(len, texts)), ends_of(map(len, groups))
-        numbers, depths = _sizes(origins), _sizes(map(len, around))
-        outer = _sizes(itertools.chain.from_iterable(around))
+        numbers, depths = sizes(origins), sizes(map(len, around))
+        outer = sizes(itertools.chain.from_iterable(around))
         joined, joined_groups = b"".join(texts), b"".join(groups)
         self._whole: Optional[SheetArrays] = None
         self.structure = _Sheets(
@@ -200,7 +200,7 @@ class SheetArrays:
             len(depths),
             b"",
             0,
-            pointer_to(_sizes(())),
+            pointer_to(sizes(())),
             0,
         )
 
@@ -259,7 +259,7 @@ class AskedArrays:
         """Takes the names of each property."""
         names = list(itertools.chain.from_iterable(properties))
         ends, joined = ends_of(map(len, names)), b"".join(names)
-        counts = _sizes(map(len, properties))
+        counts = sizes(map(len, properties))
         self.structure = _Asked(
             joined,
             len(joined),
@@ -326,15 +326,15 @@ class TreeArrays:
         """
         strings = [*strings, *states, *(name for name, _ in prefixes)]
         self.count = len(shapes) // 4
-        elements = (_Element * self.count).from_buffer_copy(_sizes(shapes))
+        elements = (_Element * self.count).from_buffer_copy(sizes(shapes))
         joined = "".join(strings).encode("utf-8")
         is_ascii = len(joined) == sum(map(len, strings))
         ends = ends_of(
             map(len, strings) if is_ascii else (len(each.encode("utf-8")) for each in strings)
         )
-        numbers = _sizes(number for _, number in prefixes)
+        numbers = sizes(number for _, number in prefixes)
         count = len(attributes) // 2
-        places = (_Attribute * count).from_buffer_copy(_sizes(attributes))
+        places = (_Attribute * count).from_buffer_copy(sizes(attributes))
         self.structure = _Tree(
             ctypes.cast(elements, ctypes.POINTER(_Element)),
             self.count,
@@ -433,7 +433,7 @@ def _function(name: str) -> Any:
     return function
 
 
-def _sizes(numbers: Iterable[int]) -> "array.array[int]":
+def sizes(numbers: Iterable[int]) -> "array.array[int]":
     """Returns an array of numbers as wide as a `size_t`."""
     return array.array(SIZE, numbers)
 
@@ -460,7 +460,7 @@ def pointer_to(numbers: "array.array[int]") -> Any:
 def ends_of(lengths: Iterable[int]) -> "array.array[int]":
     """Returns where each text ends in the buffer that has texts of these lengths one after
     another."""
-    return _sizes(itertools.accumulate(lengths))
+    return sizes(itertools.accumulate(lengths))
 
 
 @functools.lru_cache(maxsize=None)
@@ -606,6 +606,6 @@ def rows_of(numbers: "array.array[int]", width: int) -> "Iterator[array.array[in
 
 def numbers_in(output: bytes) -> "array.array[int]":
     """Returns the numbers in bytes that a call wrote."""
-    found = _sizes(())
+    found = sizes(())
     found.frombytes(output)
     return found

@@ -23,6 +23,8 @@ from typing import (
     Tuple,
 )
 
+from . import _edits
+from ._edits import Edit
 from ._elements import Elements, TreeError
 from ._html import HTML, MATH, SVG, Attribute, HtmlPage, attributes_of
 from ._library import LimitError
@@ -48,6 +50,10 @@ _VOID = frozenset(
     )
 )
 _STYLE = "style"
+# The elements of HTML that are made anew where tags are nested wrongly.
+_FORMATTING = frozenset("a b big code em font i nobr s small strike strong tt u".split())
+# How often the elements of one tag are left as they are, before all formatting elements are.
+_MOST_LEFT = 8
 # The tokens in which a backslash escapes what else is markup.
 _ESCAPABLE = frozenset("comment string bad-string url bad-url".split())
 # What is written as an escape of CSS: control characters, which XML may not have, and which some
@@ -259,12 +265,16 @@ class EditedPage:
         self._spaces = bytearray()
         self._raw: List[FrozenSet[str]] = []
         self.elements = Elements()
-        # What is written in place of what: from where, up to where, and the text.
-        self._edits: List[Tuple[int, int, str]] = []
+        # What is written in place of what.
+        self._edits: List[Edit] = []
+        # The index of each element's start tag among those of the page in HTML, or -1.
+        self._tag_numbers: List[int] = []
         self._declared: Dict[int, Tuple[str, ...]] = {}
         # The elements whose own declarations are among those.
         self._with_own: Set[int] = set()
         self._changes: Dict[int, Dict[str, Optional[str]]] = {}
+        # How often elements were left as they are, so that the tree stays the same.
+        self._left = 0
         self._head_end = 0
         line_end = text.find("\n")
         self.newline = "\r\n" if line_end > 0 and text[line_end - 1] == "\r" else "\n"
@@ -283,6 +293,7 @@ class EditedPage:
         self._spaces = page.spaces()
         ends = page.ends()
         self._inner_ends.extend(start for start, _ in ends)
+        self._tag_numbers = page.tag_numbers()
         self._take_tags(page.tags())
         self._note_raw(_NO_INDICES if other is None else self._compared(ends, other))
 
@@ -401,20 +412,23 @@ class EditedPage:
             self._replace_link(content, css)
         elif css:
             text = self._style_text(css, content.element)
-            self._edit(content.inner, f"{self.newline}{text}{self.newline}")
+            self._edit(_edits.TEXT, content.inner, f"{self.newline}{text}{self.newline}", content)
+        elif self._may_go(content):
+            self._edit(_edits.TAKE_OUT, content.span, "", content)
         else:
-            self._edit(content.span if self._may_go(content) else content.inner, "")
+            self._edit(_edits.TEXT, content.inner, "", content)
 
     def _replace_link(self, content: Content, css: str) -> None:
         if content.link is not None:
-            self._edit(content.span, "")
+            self._edit(_edits.TAKE_OUT, content.span, "")
             if css:
                 self.add_sheet(css)
-            return
-        prefix = self._prefix(content.span[0]) if self.is_xml else ""
-        is_needed = css or not self._may_go(content)
-        text = self._style_element(css, content.element, prefix) if is_needed else ""
-        self._edit(content.span, text)
+        elif css or not self._may_go(content):
+            prefix = self._prefix(content.span[0]) if self.is_xml else ""
+            text = self._style_element(css, content.element, prefix)
+            self._edit(_edits.REPLACE, content.span, text, content)
+        else:
+            self._edit(_edits.TAKE_OUT, content.span, "", content)
 
     def _style_text(self, css: str, index: int) -> str:
         """Returns css as the content of the `style` element of this index, or that takes its
@@ -427,14 +441,12 @@ class EditedPage:
         return style_text(css, self._raw[index] | {"style"}, self._is_drawn)
 
     def _style_element(self, css: str, index: int, prefix: str = "") -> str:
-        """Returns the text of a new `style` element beside the element of this index."""
-        name = f"{prefix}:style" if prefix else "style"
+        """Returns the text of a new `style` element beside the element of this index, in HTML without its
+        tags."""
         text = self._style_text(css, index).replace("\r\n", "\n")
-        return (
-            f"<{name}>\n{text}\n</{name}>".replace("\n", self.newline)
-            if css
-            else f"<{name}></{name}>"
-        )
+        inside = f"\n{text}\n".replace("\n", self.newline) if css else ""
+        name = f"{prefix}:style" if prefix else "style"
+        return f"<{name}>{inside}</{name}>" if self.is_xml else inside
 
     def _is_in_head(self, index: int) -> bool:
         """Whether an element is where a new `style` element may be: in the head, or in a drawing
@@ -462,7 +474,7 @@ class EditedPage:
         else:
             offset = self._place_in_head()
             text = self._style_element(css, _HEAD)
-        self._edit((offset, offset), text)
+        self._edit(_edits.PUT_IN, (offset, offset), text)
 
     def _place_in_head(self) -> int:
         """Returns where a new `style` element goes: before the other sheets of the head, and before
@@ -549,25 +561,94 @@ class EditedPage:
         """Sets an attribute of an element that has a tag, or removes it for `None`."""
         self._changes.setdefault(index, {})[name] = value
 
-    def _edit(self, span: Span, text: str) -> None:
-        self._edits.append((*span, text))
+    def _edit(self, kind: int, span: Span, text: str, content: Optional[Content] = None) -> None:
+        """Notes an edit, of the element of a sheet if it is one."""
+        has_tag = content is not None and bool(self._tag_numbers)
+        tag = self._tag_numbers[content.element] if content is not None and has_tag else -1
+        self._edits.append(Edit(kind, *span, tag, "", text))
+
+    def leave(self, tag: int) -> bool:
+        """Leaves elements as they are, and forgets all edits: those with this tag, or near it, and where many
+        were left, all formatting elements, and then all but sheets. Returns whether one was edited.
+        """
+        sheets = {each.element for each in self.sources}
+        free = [index for index in range(len(self.tags)) if index not in sheets]
+        names = self.elements.names
+        self._left += 1
+        kinds = (
+            self._edited_near(tag) if self._left <= _MOST_LEFT else [],
+            [index for index in free if names[index] in _FORMATTING],
+            free,
+        )
+        return any(self._leave(indices) for indices in kinds)
+
+    def _edited_near(self, tag: int) -> List[int]:
+        """Returns the edited element with this tag, or the formatting element that is nearest to it."""
+        numbers, names, changed = self._tag_numbers, self.elements.names, self._changed()
+        own = [index for index in changed if numbers[index] == tag]
+        formatting = [index for index in changed if names[index] in _FORMATTING]
+        return own or sorted(formatting, key=lambda index: abs(numbers[index] - tag))[:1]
+
+    def _leave(self, indices: List[int]) -> bool:
+        """Leaves elements as they are, and forgets all edits. Returns whether one of them was edited."""
+        found = any(self.tags[index] is not None for index in indices)
+        for index in indices:
+            self.tags[index] = None
+        self._edits, self._declared, self._changes = [], {}, {}
+        self._with_own = set()
+        return found
 
     def edited(self) -> str:
         """Returns the text with all edits."""
-        self._edits += self._edited_tags()
+        text = self._edited_xml() if self.is_xml else self._edited_html()
+        return text[: self._front[0]] + text[self._front[1] :]
+
+    def _edited_html(self) -> str:
+        changes = [each for index in self._changed() for each in self._changes_of(index)]
+        return _edits.edited(self.text, [*self._edits, *changes])
+
+    def _changed(self) -> List[int]:
+        """Returns the elements whose tags change."""
+        return [each for each in sorted({*self._declared, *self._changes}) if self.tags[each]]
+
+    def _changes_of(self, index: int) -> Iterator[Edit]:
+        """Yields the changes of the attributes of an element."""
+        tag, number = self.tags[index], self._tag_numbers[index]
+        if tag is None:
+            return
+        declared = "; ".join(self._declared.get(index, ()))
+        if declared:
+            kind, text = self._new_style_of(index, declared, self.text[tag[0] : tag[1]])
+            yield Edit(kind, *tag, number, _STYLE, text)
+        for name, value in self._changes.get(index, {}).items():
+            yield Edit(
+                _edits.REMOVE if value is None else _edits.SET, *tag, number, name, value or ""
+            )
+
+    def _new_style_of(self, index: int, declared: str, tag: str) -> Tuple[int, str]:
+        """Returns what becomes of the attribute `style` of an element that gets declarations."""
+        own = self.elements.plain[index].get(_STYLE, "")
+        if index in self._with_own or not own.strip(BLANKS):
+            return _edits.SET, declared
+        # That of a second tag of the element, if its own tag has none.
+        is_own = any(each.name == _STYLE for each in attributes_of(tag))
+        return (_edits.BEFORE, f"{declared}; ") if is_own else (_edits.SET, f"{declared}; {own}")
+
+    def _edited_xml(self) -> str:
+        edits = [(each.start, each.end, each.text) for each in self._edits]
+        edits += self._edited_tags()
         parts: List[str] = []
         last = 0
         # Of two that replace the same, the first.
-        self._edits.sort(key=operator.itemgetter(1))
-        self._edits.sort(key=operator.itemgetter(0))
+        edits.sort(key=operator.itemgetter(1))
+        edits.sort(key=operator.itemgetter(0))
         page = self.text
-        for start, end, text in self._edits:
+        for start, end, text in edits:
             if start >= last:
                 parts += page[last:start], text
                 last = end
         parts.append(page[last:])
-        text = "".join(parts)
-        return text[: self._front[0]] + text[self._front[1] :]
+        return "".join(parts)
 
     def _edited_tags(self) -> Iterator[Tuple[int, int, str]]:
         """Yields where tags are written anew, and their texts."""

@@ -59,6 +59,7 @@ from ._selectors import (
     Specificity,
     grammar_of,
 )
+from ._explaining import Explaining, Explanation, OnElements, Text
 from ._resolving import Pair, registered_in
 from ._resolving import resolved as with_values
 from ._specified import (
@@ -303,6 +304,8 @@ class StyleSheet:
         # What the page names and was not read, and of each text of a page where its imports are of this.
         self.unread: Tuple[Unread, ...] = ()
         self._left: Optional[Tuple[Tuple[Span, ...], ...]] = None
+        # The url of each text that is a linked sheet of a page.
+        self._urls: Tuple[Optional[str], ...] = (None,) * len(texts)
         self._grammar = grammar
         self._origins = _origins_of(origins, len(texts), grammar)
         self._limit = library.limit_of(limit)
@@ -369,7 +372,8 @@ class StyleSheet:
         sheet._read = [(each.source, each.statements) for each in found]
         outer = tuple(each.around for each in found)
         left = tuple(each.left for each in found)
-        sheet._of_page(outer, pieces_of(found), tuple(shelf.unread), left)
+        urls = tuple(each.url for each in found)
+        sheet._of_page(outer, pieces_of(found), tuple(shelf.unread), left, urls)
         sheet._check_size()
         return sheet
 
@@ -379,10 +383,12 @@ class StyleSheet:
         pieces: Tuple[Piece, ...],
         unread: Tuple[Unread, ...],
         left: Optional[Tuple[Tuple[Span, ...], ...]],
+        urls: Tuple[Optional[str], ...],
     ) -> "StyleSheet":
         """Returns the sheet, as that of a page: with group rules for each text, the pieces of the texts,
-        and what was not read."""
+        what was not read, and the urls of the texts."""
         self._left = left
+        self._urls = urls
         self._outer = outer
         self._pieces = pieces
         self.unread = unread
@@ -396,7 +402,7 @@ class StyleSheet:
     def __reduce__(self) -> Tuple[Any, ...]:
         texts = tuple(text.decode("utf-8") for text in self._texts)
         limits = (self._limit, self._answer_limit)
-        page = (self._outer, self._pieces, self.unread, self._left)
+        page = (self._outer, self._pieces, self.unread, self._left, self._urls)
         return (_sheet_of, (texts, self._origins, page, self._grammar, *limits))
 
     def _call(self, name: str, room: int) -> bytes:
@@ -879,6 +885,70 @@ class StyleSheet:
         # What an element has itself is after what it has from its parent.
         return ByElement(tree, (each[-1] if each else None for each in found))
 
+    def explain(
+        self,
+        element: Element,
+        name: str,
+        *,
+        media: Media = "screen",
+        presentation: Presentation = presentation_attributes,
+        shorthands: bool = True,
+        ua: bool = False,
+    ) -> Explanation:
+        """Explains which declaration of a property wins on an element: returns all that apply to it, the
+        strongest first, each with the criterion by which it loses to the one before it (CSS Cascading 5,
+        section 6.1), also those of the attribute `style`.
+
+        `shorthands`, `media`, `presentation` and `ua` are those of `style`. The grammar is "modern".
+
+            >>> tree = simplecss.Tree.from_html("<p id=a>")
+            >>> sheet = simplecss.StyleSheet("#a { color: red } p { color: blue }")
+            >>> found = sheet.explain(tree.select_one("p"), "color")
+            >>> [(each.value, each.criterion) for each in found.contenders]
+            [('red', None), ('blue', 'specificity')]
+        """
+        if not isinstance(element, Element):
+            raise TypeError(f"an Element is expected, not {type(element).__name__}")
+        options = (media, presentation, shorthands, ua)
+        return self._explaining(element.tree, name, *options).explanation(element)
+
+    def _explaining(
+        self,
+        tree: Tree,
+        name: str,
+        media: Media,
+        presentation: Presentation,
+        shorthands: bool,
+        ua: bool,
+    ) -> Explaining:
+        """Returns what explains a property on the elements of a tree."""
+        library.expect_text(name)
+        if self._grammar == PORT:
+            raise ValueError("a sheet of the modern grammar is expected")
+        elements, limit = elements_of(tree), self._answer_limit
+        winning = self._compared_winning(tree, media, ua)
+        names = names_setting(name) if shorthands else (name,)
+        own = Own(tree, presentation)
+        found = OnElements(
+            own,
+            winning.named(elements, own, names, max(limit, library.USUAL_ANSWER_LIMIT)),
+            list(winning.matching(elements, limit)),
+            lambda: with_values(
+                tree, winning.on(elements, own, limit), list(self._registered(media)), limit
+            ),
+        )
+        return Explaining(name, names, winning, self._explained_texts(tree, ua), found, limit)
+
+    def _explained_texts(self, tree: Tree, ua: bool) -> List[Text]:
+        """Returns the texts of this sheet, after those of the user agent if they take part."""
+        texts: List[Text] = []
+        for sheet in (user_agent_sheet(tree), self) if ua else (self,):
+            rows = zip(sheet._statements(), sheet._conditions, sheet._origins, sheet._urls)
+            for number, (read, conditions, origin, url) in enumerate(rows):
+                index = number if sheet is self else None
+                texts.append(Text(*read, conditions, index, url, origin))
+        return texts
+
 
 def _expect_none(**words: bool) -> None:
     """Raises `ValueError` for an argument that only the modern grammar has."""
@@ -938,6 +1008,13 @@ def sheet_of_texts(
 def usage_of(sheet: StyleSheet) -> Usage:
     """Returns which selectors of a sheet are used, of which none is so far."""
     return sheet._usage()
+
+
+def explaining_of(
+    sheet: StyleSheet, tree: Tree, name: str, media: Media, ua: bool = False
+) -> Explaining:
+    """Returns what explains a property on elements of a tree, as `explain` of the sheet does."""
+    return sheet._explaining(tree, name, media, presentation_attributes, True, ua)
 
 
 def text_of(sheet: StyleSheet) -> str:

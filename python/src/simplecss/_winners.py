@@ -65,6 +65,10 @@ class Declarations:
             found = self._made[place] = self._make(_OF_DECLARATION * place)
         return found
 
+    def start(self, place: int) -> int:
+        """Returns the offset at which a declaration begins, in bytes."""
+        return self._numbers[_OF_DECLARATION * place]
+
     def _make(self, at: int) -> Declaration:
         name, name_length, value, value_length, is_important, is_closed = self._numbers[
             at : at + _OF_DECLARATION
@@ -228,6 +232,17 @@ class Winning:
         )
         pairs = zip(numbers[::_OF_WINNER], numbers[1::_OF_WINNER])
         return [self._at(own, index, *pair) for index, pair in enumerate(pairs)]
+
+    def explained(
+        self, matching: "array.array[int]", own: Tuple[bytes, ...], names: Iterable[str]
+    ) -> "array.array[int]":
+        """Returns three numbers of each declaration that has one of these names, of those of the rules that
+        match an element and of these texts of its own, the strongest first: where it is, its place there,
+        and by what it loses to the one before it."""
+        words = list(map(library.encode, names))
+        ends = library.ends_of(map(len, words))
+        arguments = (self._sheets, self._limit, matching, library.OwnArrays(own))
+        return library.numbers_of("simplecss_explain", *arguments, b"".join(words), ends, room=1024)
 
     def _at(self, own: Own, index: int, source: int, place: int) -> Optional[Declaration]:
         """Returns the declaration that the library says wins on an element."""
