@@ -37,7 +37,7 @@
 //! selector with one of them is [`NeedsPage`].
 use crate::erased::css_selectors::{Condition, Part, Simple};
 use crate::erased::{
-    css_cascade, css_index, css_matching, css_selectors, css_sheet, css_styles, css_syntax, css_tree,
+    css_cascade, css_explain, css_index, css_matching, css_selectors, css_sheet, css_styles, css_syntax, css_tree,
 };
 use crate::erased::css_selectors::Matching as _;
 use crate::erased::css_tree::html::{html_marked, html_selector};
@@ -53,6 +53,8 @@ pub mod html;
 mod lint;
 mod page;
 
+pub use crate::erased::css_cascade::{Origin, Rollback, Weight};
+pub use crate::erased::css_explain::{Criterion, Explained};
 pub use crate::erased::css_index::Keyed;
 pub use crate::erased::css_selectors::{Element, Key, NamespacedAttribute, Names, Prefix, Specificity, NO_NAMES};
 pub use crate::erased::css_styles::{Own, Source, Winner};
@@ -943,6 +945,30 @@ impl<'d, 'p, 't, 's, 'a: 'w, 'w> Styles<'d, 'p, 't, 's, 'a, 'w> {
         let (styles, _) = self.finding();
         done(styles.winners_named(page, index, own, &[names], &mut found, &mut tests));
         found.iter().next().copied().flatten()
+    }
+
+    /// Returns all declarations that apply to the element and have one of these names, the strongest first, each with
+    /// the criterion of the cascade by which it loses to the one before it.
+    ///
+    /// ```
+    /// use simplecss::modern::{Criterion, Document, Options, Sheet};
+    /// use simplecss::tree::Tree;
+    ///
+    /// let mut tree = Tree::new();
+    /// let list = tree.push(None, "ul").unwrap();
+    /// let mut document = Document::new(&tree);
+    /// let sheet = Sheet::parse("ul { color: red } :is(ul) { color: blue }", &Options::default()).unwrap();
+    /// let mut styles = document.styles(&sheet, 1_000_000).unwrap();
+    /// let found = styles.explain(list, "color: lime", &["color"]);
+    /// let values: Vec<_> = found.iter().map(|it| (it.winner.declaration.value, it.lost_by)).collect();
+    /// let (style, order) = (Some(Criterion::StyleAttribute), Some(Criterion::Order));
+    /// assert_eq!(values, [("lime", None), ("blue", style), ("red", order)]);
+    /// ```
+    pub fn explain(&mut self, index: usize, own: impl Into<Own<'a>>, names: &[&str]) -> Vec<Explained<'a>> {
+        self.matching(index);
+        let (rules, own) = (self.rules.as_slice(), short(own.into()));
+        let found = css_explain::explain(Global, rules, &self.indices, own, names);
+        done(found).iter().copied().collect()
     }
 
     /// Panics if there is no element at an index.

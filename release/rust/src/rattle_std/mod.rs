@@ -19,7 +19,7 @@ pub mod prelude {
     pub use super::boxed::Box;
     pub use super::options::IsSomeAnd;
     pub use super::slices::FirstChunk;
-    pub use super::string::{Lowercase, String, ToString};
+    pub use super::string::{Joined, Lowercase, String, ToString};
     pub use super::vec::Vec;
     pub use core::prelude::rust_2021::*;
 }

@@ -111,6 +111,22 @@ impl Lowercase for str {
     }
 }
 
+/// Texts one after another, with another between two.
+pub trait Joined {
+    fn join_in(&self, _: Global, between: &str) -> Result<String, AllocError>;
+}
+
+impl Joined for [String] {
+    fn join_in(&self, alloc: Global, between: &str) -> Result<String, AllocError> {
+        let mut text = String::new(alloc);
+        for (number, one) in self.iter().enumerate() {
+            text.push_str(if number == 0 { "" } else { between })?;
+            text.push_str(one)?;
+        }
+        Ok(text)
+    }
+}
+
 /// Returns the text that the arguments print.
 pub fn printed(alloc: Global, arguments: fmt::Arguments<'_>) -> Result<String, AllocError> {
     let mut text = String::new(alloc);
