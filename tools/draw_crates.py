@@ -29,6 +29,7 @@ MAKES = {
     "css_cascade": "the order of layers",
     "css_sheet": "rules in order, imports",
     "css_styles": "what wins",
+    "css_explain": "and by what others lose",
     "css_values": "var(), shorthands",
     "css_lint": "mistakes in sheets",
     "css_clean": "strangers' CSS, kept safe",
@@ -37,6 +38,8 @@ MAKES = {
     "css_html": "tokens of pages",
     "css_html_tree": "trees of pages",
     "html_calls": "calls: HTML",
+    "html_edits": "edits of pages",
+    "edit_calls": "calls: edits",
     "html_encodings": "encodings of pages",
     "css_laws": "laws of several crates",
     "clean_laws": "laws of cleaned sheets",
@@ -62,7 +65,15 @@ DOORS = {
     "Python": ("simplecss_c",),
     "JavaScript": ("simplecss_c",),
     "C": ("simplecss_c",),
-    "Rust": ("css_styles", "css_lint", "css_clean", "html_calls", "css_conditions", "cssq"),
+    "Rust": (
+        "css_styles",
+        "css_explain",
+        "css_lint",
+        "css_clean",
+        "html_calls",
+        "css_conditions",
+        "cssq",
+    ),
     "cssq, a program": ("cssq_cli",),
 }
 MAKES.update(
@@ -81,7 +92,7 @@ COLUMNS = (
         "Style sheets",
         "#eef4fb",
         "css_text css_syntax css_conditions css_cascade css_sheet css_values css_lint css_clean"
-        " css_styles sheet_calls clean_calls",
+        " css_styles css_explain sheet_calls clean_calls explain_calls",
     ),
     (
         "The C library, and laws",
@@ -92,7 +103,8 @@ COLUMNS = (
         "Selectors and pages",
         "#eef7ee",
         "css_matching css_selector_text css_selectors css_index css_open_elements css_elements css_tree"
-        " page_calls kept_lists list_calls kept_pages handles css_html css_html_tree html_encodings html_calls",
+        " page_calls kept_lists list_calls kept_pages handles css_html css_html_tree html_encodings html_calls"
+        " html_edits edit_calls",
     ),
     (
         "CSS 2.1: the port",

@@ -46,7 +46,7 @@ class Package(NamedTuple):
 
 # fmt: off
 RUST = Package(TOP / "release/rust", ("simplecss", "simplecss_tree"), ("cssq/src/cascade.rt",),
-               ("css_styles", "css_values", "css_conditions", "css_lint", "html_calls",
+               ("css_styles", "css_explain", "css_values", "css_conditions", "css_lint", "html_calls",
                 "html_encodings", "css_clean"))
 # fmt: on
 HEADERS = (TOP / "include/simplecss.h", TOP / "include/simplecss.hpp")
@@ -341,6 +341,7 @@ def placed(text: str, crate: str, crates: List[str]) -> str:
     text = re.sub(rf"(?<![\w:$])({'|'.join(crates)})::", r"crate::erased::\1::", text)
     text = re.sub(r"(?<![\w:$])log::", "crate::rattle_log::", text)
     text = re.sub(r"\.(to_ascii_lowercase|to_string)\(((?:\w+\.)?alloc)\)", r".\1_in(\2)", text)
+    text = re.sub(r"\.join\(((?:\w+\.)?alloc), ", r".join_in(\1, ", text)
     text = re.sub(r"\bformat!\(in ", "crate::rattle_std::string::format_in!(", text)
     text = re.sub(r"\bvec!\[in ", "crate::rattle_std::vec::vec_in![", text)
     lines = text.split("\n")

@@ -95,6 +95,8 @@ SECOND = (
     "clean",
     "counterpart",
     "dropped",
+    "explain",
+    "html_edit",
     "inherited",
     "lint",
     "longhands",
