@@ -333,6 +333,26 @@ def computed(page: str, names: Sequence[str], cases: List[Any]) -> Optional[List
     return browser_answers(page, {"names": names, "cases": cases})
 
 
+def taken_out(source: Source) -> Iterator[Dict[str, Any]]:
+    """Sheets and drawings where more and more of the declarations of a property that apply to the last element are
+    of another property, as they are explained, and what is left then. None is rolled back."""
+    text, drawing = source.sheet(), f"<svg>{source.element()}</svg>"
+    tree = Tree.from_html(drawing)
+    drawn = [each for each in tree if each.name in ("g", "rect")]
+    for name in COLORS:
+        found = StyleSheet(text).explain(drawn[-1], name).contenders
+        if not all(each.value.startswith("rgb(") for each in found):
+            continue
+        for value in (*(each.value for each in found), INITIAL[name]):
+            yield {
+                **{"text": text, "drawing": drawing, "name": name, "value": value},
+                "index": len(drawn) - 1,
+            }
+            for before, after in ((": ", ""), ('="', '"')):
+                one = f"{name}{before}{value}{after}"
+                text, drawing = text.replace(one, f"x{one}"), drawing.replace(one, f"x{one}")
+
+
 class Cascade(Case):
     def test_winners(self) -> None:
         """The package finds the values that the browser computes."""
@@ -362,7 +382,7 @@ class Cascade(Case):
     def test_compared(self) -> None:
         """Where the browser computes another value by a changed sheet, `compare` names the property."""
         source, names = Source(109), [*COLORS, "margin-top"]
-        pairs = [source.changed() for _ in range(count(800))]
+        pairs = [source.changed() for _ in range(count(400))]
         drawings = [f"<svg>{source.element()}{source.element()}</svg>" for _ in pairs]
         cases = [
             [{"text": text, "drawing": drawing} for text in pair]
@@ -394,6 +414,16 @@ class Cascade(Case):
 
         self.against(judge, cases, question)
         self.assertLess(len(cases) // 20, quiet)
+
+    def test_explained(self) -> None:
+        """Each declaration of an explanation is what the browser shows once those before it are taken out."""
+        source = Source(104)
+        cases = [each for _ in range(count(800)) for each in taken_out(source)]
+
+        def question(case: Dict[str, Any], due: Any) -> List[Optional[str]]:
+            return rows(case, [case["value"]], [due[case["index"]][COLORS.index(case["name"])]])
+
+        self.against(lambda asked: computed(PAGE, COLORS, asked), cases, question)
 
     def test_written_sheets(self) -> None:
         """Sheets that were written for what the standards say of nesting, layers, rolling back, selectors and syntax,

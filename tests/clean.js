@@ -1,14 +1,16 @@
 // What a browser says of texts before and after they are cleaned. `input.kind` is the question.
 "use strict";
-const LISTED = new Set(["color", "background", "background-color", "width", "font-size",
-    "background-attachment", "background-clip", "background-image", "background-origin",
-    "background-position-x", "background-position-y", "background-repeat", "background-size"]);
-const PSEUDOS = new Set(["active", "after", "before", "checked", "disabled", "empty", "first-child",
-    "first-of-type", "focus", "hover", "is", "last-child", "last-of-type", "link", "not", "nth-child",
-    "nth-of-type", "only-child", "visited", "where"]);
-const WORDS = new Set(["all", "and", "dark", "landscape", "light", "max-device-width", "max-width",
-    "min-device-width", "min-width", "not", "only", "orientation", "portrait",
-    "prefers-color-scheme", "print", "screen"]);
+// What the policy has of names, which `use` sets for each sheet.
+const LONGHANDS = { background: ["background", "background-color", "background-attachment", "background-clip",
+    "background-image", "background-origin", "background-position-x", "background-position-y",
+    "background-repeat", "background-size"] };
+let LISTED, PSEUDOS, WORDS, ITSELF;
+function use({ properties, pseudos, media, itself }) {
+    LISTED = new Set(properties.flatMap(name => LONGHANDS[name] || [name]));
+    PSEUDOS = new Set(pseudos);
+    WORDS = new Set(media);
+    ITSELF = itself;
+}
 const OTHER_FUNCTION = /\b(?!(?:rgb|rgba|hsl|hsla|calc|var)\b)[-a-z]+\(/i;
 const isFine = value => !/evil/.test(value) && !OTHER_FUNCTION.test(value);
 const newlines = text => text.replace(/\r\n?/g, "\n");
@@ -44,7 +46,8 @@ function isClosed(text) {
     const rules = sheet.cssRules;
     return rules.length == 2 && rules[1].style?.top == "7px" && rules[0].cssRules?.length === 0;
 }
-function style([raw, clean]) {
+function style([raw, clean, policy]) {
+    use(policy);
     const before = attribute(raw), after = attribute(clean);
     const isBad = found => Object.keys(found).some(n => !LISTED.has(n) || !isFine(found[n]));
     const lost = Object.keys(before).filter(name => LISTED.has(name) && before[name] !== ""
@@ -72,18 +75,21 @@ function split(text) {
     }
     return [...found, one].map(each => each.replaceAll("\u0001", "\\").trim());
 }
-// What is left of a selector after the names at its front that mean the scope, and how it is joined to the scope.
+// What is left of a selector after one or two compounds at its front that mean the scope, and how it is joined to
+// the scope.
 function inner(selector) {
     let text = selector, joined = "";
-    for (let found; (found = /^(?:html|body|:root|:host)(?![^\s>+~])\s*(>?)\s*/i.exec(text));) {
+    for (let left = 2; left > 0; left--) {
+        const found = /^(?:html|body|:root|:host)(?![^\s>+~])\s*(>?)\s*/i.exec(text);
+        if (!found) break;
         text = text.slice(found[0].length);
         joined = found[1];
     }
     return { text, joined };
 }
 function mayBeUnder(whole) {
-    const { text: selector } = inner(whole);
-    if (selector == "") return false;
+    const { text: selector, joined } = inner(whole);
+    if (selector == "") return ITSELF && !joined;
     const plain = selector.replace(/"[^"]*"/g, '""');
     if (/[&|\\<{}@]/.test(plain) || /[<{}\\@]/.test(selector)) return false;
     for (const found of plain.matchAll(/::?([-\w]+)/g)) if (!PSEUDOS.has(found[1])) return false;
@@ -121,13 +127,14 @@ function outsideOfPolicy(rules) {
     for (const rule of rules) {
         if (rule.other || rule.isNested) found.push(rule.other || "nested");
         for (const each of rule.list || [])
-            if (!/^\.mail (?:> )?(?![>+~])/.test(each)) found.push(each);
+            if (!/^\.mail (?:> )?(?![>+~])/.test(each) && !(ITSELF && each == ".mail")) found.push(each);
         for (const [name, value] of Object.entries(rule.all || {}))
             if (!LISTED.has(name) || !isFine(value)) found.push(`${name}: ${value}`);
     }
     return found;
 }
-const under = list => list.map(inner).map(({ text, joined }) => `.mail ${joined && joined + " "}${text}`).join();
+const under = list => list.map(inner)
+    .map(({ text, joined }) => text == "" ? ".mail" : `.mail ${joined && joined + " "}${text}`).join();
 // The rules of the raw sheet that are allowed, and not kept in their order.
 function lostRules(before, after) {
     const lost = [];
@@ -174,9 +181,10 @@ function inPage(text) {
     slot.innerHTML = "";
     return { framed, same };
 }
-function sheet([raw, clean]) {
+function sheet([raw, clean, policy]) {
+    use(policy);
     const before = parsed(raw), after = parsed(clean);
-    return { bad: outsideOfPolicy(after), lost: lostRules(before, after), more: addedRules(before, after),
+    return { kept: after.length, bad: outsideOfPolicy(after), lost: lostRules(before, after), more: addedRules(before, after),
         after: inPage(clean), before: inPage(raw) };
 }
 

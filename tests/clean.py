@@ -200,6 +200,26 @@ THREATS = (
 DEEP = ("64 brackets", "sheet", "a" + ":not(" * 70 + "b" + ")" * 70 + "{color:red}", False)
 
 
+class Names(NamedTuple):
+    """What a policy of the tests has of names, and whether rules may be for the scope itself."""
+
+    properties: Sequence[bytes]
+    pseudos: Sequence[bytes]
+    media: Sequence[bytes]
+    itself: bool = False
+
+    def arrays(self) -> PolicyArrays:
+        """The policy, for the library."""
+        lists = self.properties, FUNCTIONS, (), self.pseudos, self.media
+        return policy_of(b".mail", *lists, itself=int(self.itself))
+
+    def said(self) -> Dict[str, Any]:
+        """The policy, for the browser."""
+        lists = {"properties": self.properties, "pseudos": self.pseudos, "media": self.media}
+        words = {name: [each.decode() for each in all_of] for name, all_of in lists.items()}
+        return {**words, "itself": self.itself}
+
+
 class Made(NamedTuple):
     """What is kept of a text, and the pieces that are dropped: two offsets and a reason."""
 
@@ -215,9 +235,8 @@ class Cleaner:
         lines = lines_of(self.library, "mail")
         self.reasons = [each.decode() for each in lines["reasons"]]
         self.mail = policy_of(b".mail", *(lines[each] for each in LISTS))
-        self.tests = policy_of(
-            b".mail", PROPERTIES, FUNCTIONS, (), lines["pseudos"], lines["media"]
-        )
+        self.names = Names(PROPERTIES, lines["pseudos"], lines["media"])
+        self.tests = self.names.arrays()
 
     def bytes_of(self, name: str, *arguments: Any) -> bytes:
         """What a call writes."""
@@ -312,6 +331,20 @@ def random_sheets(number: int) -> List[str]:
     ]
 
 
+def random_names(number: int, usual: Names) -> List[Names]:
+    """Random policies, of some names of the usual one."""
+    chance = random.Random(94)
+
+    def some(names: Sequence[bytes]) -> List[bytes]:
+        """Most of the names."""
+        return [name for name in names if chance.random() < 0.8]
+
+    return [
+        Names(some(usual.properties), some(usual.pseudos), some(usual.media), chance.random() < 0.5)
+        for _ in range(number)
+    ]
+
+
 def is_refused(text: str) -> bool:
     """Whether the text may have what the policy refuses and the browser's object model hides: an escape, a
     comment, a string, a namespace, or U+0000."""
@@ -393,12 +426,13 @@ class Clean(Case):
         self.assertEqual([each.text for each in self.made(STYLE, clean)], clean, "cleaned again")
         unclean = [text for text in clean if not self.cleaner.is_clean(text, STYLE)]
         self.assertEqual(unclean, [], "cleaned, and not clean")
-        answers = ask("style", list(zip(raw, clean)))
+        said = self.cleaner.names.said()
+        answers = ask("style", [(*each, said) for each in zip(raw, clean)])
         self.against(lambda asked: answers, list(zip(raw, clean)), of_style)
-        said = answers or []
         for name, least in (("wasBad", 5), ("wasFramed", 15), ("wasClosed", 5)):
-            is_broken = [one[name] == (name == "wasBad") for one in said]
-            self.assertGreater(sum(is_broken), len(said) // least // 4, f"{name}: nothing to judge")
+            is_broken = [one[name] == (name == "wasBad") for one in answers or []]
+            few = len(is_broken) // least // 4
+            self.assertGreater(sum(is_broken), few, f"{name}: nothing to judge")
 
     def test_stored(self) -> None:
         """Random style attributes that are clean as they are: nothing of them is dropped, and the browser finds
@@ -409,7 +443,8 @@ class Clean(Case):
             if is_clean:
                 self.assertEqual(one.dropped, [], text)
         self.assertGreater(sum(found), len(raw) // 40, "nothing to judge")
-        answers = ask("style", [(text, text) for text in raw])
+        said_of = self.cleaner.names.said()
+        answers = ask("style", [(text, text, said_of) for text in raw])
         if answers is None:
             self.skipTest("no browser answers")
         wrong = [
@@ -419,19 +454,34 @@ class Clean(Case):
         ]
         self.assertEqual(wrong, [])
 
-    def test_sheets(self) -> None:
-        """Random sheets: nothing outside of the policy and of the scope, nothing lost."""
-        raw = random_sheets(count(1200))
-        made = self.made(SHEET, raw)
-        clean = [each.text for each in made]
-        unclean = [text for text in clean if not self.cleaner.is_clean(text, SHEET)]
-        self.assertEqual(unclean, [], "cleaned, and not clean")
+    def sheets(self, raw: Sequence[str], policies: Sequence[Names]) -> List[Any]:
+        """What the browser says of sheets, each by its policy: nothing is outside of it and of the scope, and
+        nothing that is within is lost."""
+        made = [self.cleaner.made(text, SHEET, each.arrays()) for text, each in zip(raw, policies)]
         whole = [found for found in made if any(each[2] == "unclean" for each in found.dropped)]
         self.assertEqual(whole, [], "dropped whole, since what was kept was not clean")
-        answers = ask("sheet", list(zip(raw, clean)))
+        clean = [each.text for each in made]
+        answers = ask("sheet", list(zip(raw, clean, (each.said() for each in policies))))
         self.against(lambda asked: answers, list(zip(raw, clean)), of_sheet)
-        changed = [one for one in answers or [] if not one["before"]["same"]]
-        self.assertGreater(len(changed), len(raw) // 40, "nothing to judge")
+        return answers or []
+
+    def test_sheets(self) -> None:
+        """Random sheets, by one policy."""
+        raw = random_sheets(count(1200))
+        answers = self.sheets(raw, [self.cleaner.names] * len(raw))
+        clean = [each.text for each in self.made(SHEET, raw)]
+        unclean = [text for text in clean if not self.cleaner.is_clean(text, SHEET)]
+        self.assertEqual(unclean, [], "cleaned, and not clean")
+        changed = [one for one in answers if not one["before"]["same"]]
+        self.assertGreater(len(changed), len(answers) // 40, "nothing to judge")
+
+    def test_policies(self) -> None:
+        """Random sheets, each by a random policy."""
+        raw = random_sheets(count(1200))
+        policies = random_names(len(raw), self.cleaner.names)
+        answers = self.sheets(raw, policies)
+        kept = [one for one in answers if one["kept"]]
+        self.assertGreater(len(kept), len(answers) // 40, "nothing to judge")
 
     def test_dropped(self) -> None:
         """A text without the pieces that are dropped has the rest of it, and nothing is dropped."""

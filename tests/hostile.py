@@ -464,7 +464,7 @@ class Hostile(Case):
             with tempfile.TemporaryDirectory() as folder:
                 yield how and f"{how}\n  {page!r}\n  {inlined(page, folder)!r}"
 
-        self.against(browser, [source.page() for _ in range(count(300))], question)
+        self.against(browser, [source.page() for _ in range(count(200))], question)
 
     def opened(self, pages: List[Page], first: int, folder: str) -> Dict[int, str]:
         """Returns what a browser finds of pages after `inline` that it did not before; those that

@@ -36,7 +36,7 @@ from tests.common import (
 
 EXPECTED = "1:\n2: 1 2\n3:\n"
 # How many calls tests/library_refused.c makes, and which of them allocate nothing.
-CALLS = 54
+CALLS = 55
 WITHOUT_MEMORY = (10, 19, 37)
 NO_HEADERS = "the C example was not compiled: the system has no C headers or start files"
 

@@ -314,7 +314,7 @@ def filled(
     not told of."""
     length, fault = SIZE(77), TreeFault(88, 99)
     limit = (SIZE(most),) if name in LIMITED else ()
-    tail = (ctypes.byref(fault),) if name in WITH_TREE else ()
+    tail = (ctypes.byref(fault),) if name in (*WITH_TREE, "simplecss_html_edit") else ()
     with given(library, name, arguments, fault) as (made, words):
         status = getattr(library, name)(
             *words, *limit, out, SIZE(len(out) - 4), ctypes.byref(length), *tail
@@ -658,7 +658,31 @@ ENCODED = (
     (b"<!-- <meta charset=koi8-r>", b"", b"default\twindows-1252"),
     (b"", b"", b"default\twindows-1252"),
 )
+
+
+# The numbers of an edit of a page, and its strings.
+Edit = Tuple[int, int, int, bytes, bytes]
+
+
+def edit_of(page: bytes, *edits: Edit) -> Tuple[bytes, Sizes, bytes, Sizes]:
+    """The arguments of the call that edits a page."""
+    numbers = [number for edit in edits for number in edit[:3]]
+    return page, sizes(numbers), *buffer_of([text for edit in edits for text in edit[3:]])
+
+
+# Pages with edits: attributes that are set, put before their own, and removed; texts of `style` elements, and
+# these elements put in, taken out, and in place of a link.
+EDITED = (
+    (b"<p class=a>b", ((1, 0, 0, b"style", b'"<&'),), b'<p class=a style="&quot;&lt;&amp;">b'),
+    (b"<p STYLE='a'/>b", ((2, 0, 0, b"style", b"b; '"),), b"<p style='b; &#39;a'/>b"),
+    (b"<b c=d e>f", ((3, 0, 0, b"c", b""), (1, 0, 0, b"e", b"g")), b'<b e="g">f'),
+    (b"<style>a</style>", ((4, 0, 8, b"", b"c<b"),), b"<style>c<b</style>"),
+    (b"\xef\xbb\xbf<p>a", ((5, 3, 0, b"", b"c"),), b"\xef\xbb\xbf<style>c</style><p>a"),
+    (b"<style>a</style><p>", ((6, 0, 16, b"", b""),), b"<p>"),
+    (b"<link><p>", ((7, 0, 6, b"", b"c"),), b"<style>c</style><p>"),
+)
 ANSWERS: Sequence[Tuple[str, Tuple[Any, ...], bytes]] = (
+    *(("simplecss_html_edit", edit_of(page, *edits), text) for page, edits, text in EDITED),
     *(("simplecss_html_encoding", (page, label), line) for page, label, line in ENCODED),
     *(("simplecss_clean", (text, policy, asked), kept) for policy, asked, text, kept in CLEANED),
     ("simplecss_version", (), version().encode()),
@@ -1007,6 +1031,11 @@ _ORIGINS = sheets_of(
     _NO_GROUPS,
     (0, 2, 1),
 )
+# A rule in a layer, and three of rising specificity that are in none.
+_EXPLAINED = sheets_of(
+    buffer_of((b"@layer x{*{a:1!important;a:2}} z{a:3;A:4} .y{b:5;c:6} #w{a:7}",)), _NO_GROUPS
+)
+_EXPLAINED_OWN = own_of(b"d:e;a:f", b"b:g")
 for _texts, _status in (
     ((b"ab", sizes([1])), REFUSED),
     (buffer_of((b"a", BROKEN)), NOT_UTF8),
@@ -1020,6 +1049,7 @@ for _texts, _status in (
         ("simplecss_winners", (_sheets, HTML, 2, PAGE, NO_OWN), _status),
         ("simplecss_winners_named", (_sheets, HTML, 2, PAGE, NO_OWN, asked_of()), _status),
         ("simplecss_matches", (_sheets, HTML, 2, PAGE), _status),
+        ("simplecss_explain", (_sheets, 2, sizes([]), NO_OWN, *_NO_GROUPS), _status),
     ]
     if _status in (REFUSED, NOT_UTF8):
         _sheets = sheets_of(_NO_GROUPS, _texts)
@@ -1037,8 +1067,12 @@ for _texts, _status in (
             ("simplecss_winners", (_RULES, HTML, NO_LIMIT, PAGE, _own), _status),
             ("simplecss_winners_named", (_RULES, HTML, NO_LIMIT, PAGE, _own, asked_of()), _status),
             ("simplecss_winners_named", (_RULES, HTML, NO_LIMIT, PAGE, NO_OWN, _asked), _status),
+            ("simplecss_explain", (_RULES, NO_LIMIT, sizes([]), _own, *_NO_GROUPS), _status),
+            ("simplecss_explain", (_RULES, NO_LIMIT, sizes([]), NO_OWN, *_texts), _status),
         ]
 FAILURES += [
+    ("simplecss_explain", (_RULES, NO_LIMIT, sizes([1, 0]), NO_OWN, *_NO_GROUPS), REFUSED),
+    ("simplecss_explain", (_RULES, NO_LIMIT, sizes([0, 2, 2]), NO_OWN, *_NO_GROUPS), REFUSED),
     ("simplecss_winners", (_RULES, PORT, NO_LIMIT, PAGE, NO_OWN), REFUSED),
     ("simplecss_winners", (_RULES, 4, NO_LIMIT, _BROKEN_PAGE, NO_OWN), REFUSED),
     ("simplecss_winners", (_RULES, MODERN, NO_LIMIT, _BROKEN_PAGE, NO_OWN), NOT_UTF8),
@@ -1145,6 +1179,14 @@ NUMBERS: Sequence[Tuple[str, Tuple[Any, ...], Sequence[Sequence[int]]]] = (
         ((2, 2, 0, 0, 1),) * 3,
     ),
     ("simplecss_matches", (_RULES, HTML, NO_LIMIT, PAGE), ((0,), (3, 0, 2, 3), (2, 0, 2))),
+    # By importance, the attribute, a layer, the specificity, and the order; a hint is before all of the author's.
+    (
+        "simplecss_explain",
+        (_EXPLAINED, NO_LIMIT, sizes([0, 1, 2, 3, 9]), _EXPLAINED_OWN, *buffer_of((b"a", b"B"))),
+        ((0, 0, 0), (4, 1, 1), (3, 0, 2), (2, 0, 4), (1, 1, 4), (1, 0, 5), (0, 1, 3), (5, 0, 1)),
+    ),
+    ("simplecss_explain", (_EXPLAINED, 8, sizes([0, 2]), NO_OWN, b"b", sizes([1])), ((2, 0, 0),)),
+    ("simplecss_explain", (_EXPLAINED, 8, sizes([0]), NO_OWN, *_NO_GROUPS), ()),
     (
         "simplecss_winners",
         (_NESTED, MODERN, NO_LIMIT, PAGE, NO_OWN),
@@ -1325,6 +1367,33 @@ class Calls(Case):
             ):
                 self.fails(name, arguments, TREE_FAULT, (fault, element))
 
+    def test_edits(self) -> None:
+        """Edits out of order, outside of tags and elements, and of texts that would end their element; and
+        those that would change the tree, of which the tag is named."""
+        name = "simplecss_html_edit"
+        refused: List[Tuple[bytes, Sequence[Edit]]] = [
+            (b"<p>a", [(1, 1, 0, b"a", b"")]),
+            (b"<p><b>a", [(1, 1, 0, b"a", b""), (1, 0, 0, b"a", b"")]),
+            (b"<p>a", [(8, 0, 0, b"a", b"")]),
+            (b"<p>a", [(5, 5, 0, b"", b"")]),
+            (b"<p>a", [(5, 0, 0, b"", b"a</STYLE>")]),
+            (b"<p>a</p>", [(4, 0, 4, b"", b"")]),
+            (b"<p>a</p>", [(6, 0, 8, b"", b"")]),
+            (b"<style>a</style>b", [(6, 0, 17, b"", b"")]),
+            (b"<link>a", [(6, 0, 7, b"", b"")]),
+        ]
+        for page, edits in refused:
+            self.fails(name, edit_of(page, *edits), REFUSED, (88, 99))
+        for page, edit, tag in (
+            (b"<p><b><b><b><b>x</p><p>y", (1, 4, 0, b"a", b""), 2),
+            (b"<p>a", (1, 0, 0, b"a", b"\0"), 1),
+            (b"<p>a", (1, 0, 0, b"a b", b""), 1),
+            (b"<p>a<b>c", (5, 5, 0, b"", b"a"), 2),
+        ):
+            self.fails(name, edit_of(page, edit), TREE_FAULT, (5, tag))
+        self.fails(name, edit_of(BROKEN), NOT_UTF8, (88, 99))
+        self.fails(name, edit_of(b"a", (5, 0, 0, b"", BROKEN)), NOT_UTF8, (88, 99))
+
     def fails(
         self, name: str, arguments: Sequence[Any], status: int, fault: Tuple[int, int]
     ) -> None:
@@ -1466,6 +1535,8 @@ def large_sheets() -> Iterator[Tuple[str, Tuple[Any, ...], int]]:
         yield "simplecss_winners", (*sheets, _ONE_ELEMENT, NO_OWN), 3
         yield "simplecss_winners_named", (*sheets, _ONE_ELEMENT, NO_OWN, asked), 2
         yield "simplecss_matches", (*sheets, _ONE_ELEMENT), 1 + MANY
+        matching, one = sizes(list(range(MANY))), buffer_of((b"a",))
+        yield "simplecss_explain", (sheets[0], NO_LIMIT, matching, NO_OWN, *one), 3 * MANY
     sheets = (sheets_of(many_texts(b"p{" + b"a:b;" * MANY + b"}", 1), none), HTML, NO_LIMIT)
     yield "simplecss_rules", (sheets[0], NO_LIMIT), 9 + 6 * MANY
     yield "simplecss_winners", (*sheets, _ONE_ELEMENT, NO_OWN), 3

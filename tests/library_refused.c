@@ -79,6 +79,10 @@ static uint32_t list_text(const uint8_t *text, size_t count, size_t grammar, uin
     return let_go(made, simplecss_list_text(&list, to, room, len), &list);
 }
 
+/* An edit that sets the attribute of a tag, and where its name and its value end. */
+static const size_t page_edits[] = {SIMPLECSS_EDIT_SET, 0, 0};
+static const size_t edit_ends[] = {5, 14};
+
 /* The status of a question to a page, or of why there is none: then the question finds no page. Lets the page go. */
 static uint32_t page_select(size_t grammar, const uint8_t *text, size_t count, size_t *to, size_t room, size_t *len) {
     simplecss_kept_page page = {0};
@@ -156,6 +160,7 @@ int main(int count, char **words) {
     case 51: status = simplecss_clean(TEXT("a, b:hover { color: red; top: 0 } @media print { c { color: red } }"), &policy, SIMPLECSS_CLEAN_SHEET, OUT); break;
     case 52: status = simplecss_dropped(TEXT("color: red; top: 0; color: url(a)"), &policy, SIMPLECSS_CLEAN_STYLE, NUMBERS); break;
     case 53: status = simplecss_html_encoding(TEXT("<meta charset=koi8-r>"), TEXT("none"), OUT); break;
+    case 54: status = simplecss_html_edit(TEXT("<p class=a>b"), page_edits, 3, TEXT("stylecolor:red"), edit_ends, 2, OUT, &fault); break;
     default: break;
     }
     (void)!write(2, "end", 3);
