@@ -14,7 +14,7 @@ from contextlib import redirect_stderr, redirect_stdout
 
 sys.path.insert(0, os.path.join(os.path.dirname(os.path.abspath(__file__)), "..", "src"))
 
-from simplecss import Device, StyleSheet, Tree, compare  # noqa: E402
+from simplecss import Device, LimitError, StyleSheet, Tree, compare  # noqa: E402
 from simplecss import __main__ as command  # noqa: E402
 
 PAGE = "<!DOCTYPE html><p class=a>x</p>\n<p id=b style='z-index: 1'>y</p>"
@@ -83,6 +83,18 @@ class Texts(unittest.TestCase):
         found = compare(old, new, *trees, media=Device(width=999))
         self.assertEqual([each.element.tree for each in found], [trees[0], trees[2]])
         self.assertEqual(compare(old, new), [])
+
+    def test_limits(self):
+        """Longhands that are asked for one after another, and differences."""
+        tree = Tree.from_html("<p>x")
+        many = StyleSheet("".join(f"p{{--x{number}:revert}}" for number in range(4000)))
+        with self.assertRaisesRegex(
+            LimitError, "10000000 elements and declarations for all longhands"
+        ):
+            compare(many, many, tree)
+        page = Tree.from_html("<b>x</b>" * 5000)
+        with self.assertRaisesRegex(LimitError, "1000000 differences"):
+            compare(StyleSheet("*{all:unset}"), StyleSheet("*{all:initial}"), page)
 
 
 class Command(unittest.TestCase):

@@ -7,6 +7,7 @@ from typing import Dict, Iterable, Iterator, List, NamedTuple, Optional, Sequenc
 
 from ._declaration import Declaration
 from ._device import Media
+from ._library import USUAL_ANSWER_LIMIT, Room
 from ._minify import short_text
 from ._properties import counterparts, longhands
 from ._sheet import StyleSheet
@@ -15,6 +16,8 @@ from ._values import has_ident
 
 # What undoes the declarations of an origin or a layer, of which those that win do not tell.
 _ROLLS_BACK = frozenset(("revert", "revert-layer"))
+# How many differences are returned at most.
+_MOST = 1_000_000
 
 
 class Difference(NamedTuple):
@@ -39,15 +42,17 @@ def compare(
     presentation attributes of SVG take part. Values are compared as `minify` writes them, and a shorthand
     differs from its longhands. Text is taken to be horizontal, from left to right. Pseudo-elements are not
     compared. `media` is that of `StyleSheet.match`. The time grows as that of `StyleSheet.styles`, and where
-    declarations roll back, as that times the longhands that the sheets set.
+    declarations roll back, as the elements and declarations times the longhands that the sheets set. More than
+    10,000,000 of these, or 1,000,000 differences, raise `LimitError`.
     """
     has_rollback = any(map(_rolls_back, (old, new)))
     found: List[Difference] = []
+    room = Room(_MOST, "differences")
     for tree in trees:
-        if has_rollback or _has_own_rollback(tree):
-            found += _by_name(old, new, tree, media)
-        else:
-            found += _by_winners(old, new, tree, media)
+        is_by_name = has_rollback or _has_own_rollback(tree)
+        for each in (_by_name if is_by_name else _by_winners)(old, new, tree, media):
+            room.take(1)
+            found.append(each)
     return found
 
 
@@ -76,9 +81,12 @@ def _by_winners(old: StyleSheet, new: StyleSheet, tree: Tree, media: Media) -> I
             yield from _differing(element, *both)
 
 
-def _by_name(old: StyleSheet, new: StyleSheet, tree: Tree, media: Media) -> List[Difference]:
+def _by_name(old: StyleSheet, new: StyleSheet, tree: Tree, media: Media) -> Iterable[Difference]:
     """Returns the differences on a tree by what wins for each longhand that a sheet sets."""
-    names = {part for sheet in (old, new) for part in _longhands(_declarations(sheet))}
+    every = [each for sheet in (old, new) for each in _declarations(sheet)]
+    names = _longhands(every)
+    room = Room(USUAL_ANSWER_LIMIT, "elements and declarations for all longhands")
+    room.take(len(names) * (len(tree) + len(every)))
     found: List[Tuple[int, Difference]] = []
     for name in sorted(names):
         before, after = (
