@@ -45,7 +45,7 @@ past-kept r s test b (c ∷ z) =
     rw (past-step test b (c ∷ (z ++ r)), past-step test b (c ∷ (z ++ s)))
     (if-kept r s (test b) (past-kept r s test c z) (kept b (c ∷ z)))
 
-past-any : (r s : List ℕ) (test : ℕ → Bool) (z : List ℕ)
+pub past-any : (r s : List ℕ) (test : ℕ → Bool) (z : List ℕ)
     → Kept r s (past test (z ++ r)) (past test (z ++ s))
 past-any r s test [] = lost (past test r) (past test s) (length-past test r)
 past-any r s test (b ∷ z) = past-kept r s test b z
@@ -265,7 +265,7 @@ past_attributes-kept r s p q h =
 
 -- ---- tags
 
-tag_end-lost : (kind : TokenKind) (f p v end r : List ℕ) → length end ≤ length r → 0 < length r
+pub tag_end-lost : (kind : TokenKind) (f p v end r : List ℕ) → length end ≤ length r → 0 < length r
     → length (tag_end kind f p v end).rest < length r
 tag_end-lost kind f p v [] r h l = l
 tag_end-lost kind f p v (b ∷ end) r h l = omega arith

@@ -10,3 +10,8 @@ pub mod Inserted
 pub mod Closed
 pub mod Texts
 pub mod Edited
+pub mod Changed
+pub mod Ended
+pub mod Between
+pub mod MarkupKinds
+pub mod Alone

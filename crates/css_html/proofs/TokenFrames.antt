@@ -17,6 +17,7 @@ use Rattle.css_html.specs.Locality.{Said, said, TextDriver, Reads, reads_none, r
 use Rattle.css_html.specs.declared.marks.ScriptState.{ScriptState}
 use Rattle.css_html.specs.declared.marks.ScriptState.TheVariants.{Plain, Escaped, DoubleEscaped}
 use Rattle.css_html.specs.declared.modes.Mode.{Mode}
+use Rattle.css_html.specs.declared.modes.RawName.{RawName}
 use Rattle.css_html.specs.declared.modes.Mode.TheVariants.{Data, Foreign, Raw, Script, Plaintext}
 use Rattle.css_html.specs.declared.tokenizer.TokenKind.{TokenKind}
 use Rattle.css_html.specs.declared.tokenizer.TokenKind.TheVariants as kinds
@@ -439,25 +440,33 @@ begins-tag [] h = absurd (cc h)
 begins-tag (c ∷ []) h = rw h refl
 begins-tag (c ∷ d ∷ m) h = rw h refl
 
-text-framed : (m n z : List ℕ) → starts_by is_letter m ≡ true → starts_by is_letter n ≡ true
+-- What follows a `<` makes it markup in both pages, and an end tag of the same elements.
+pub record SameMark (m n : List ℕ) : Type 0 where
+  pub one : begins_markup (less_than_sign ∷ m) ≡ true
+  pub other : begins_markup (less_than_sign ∷ n) ≡ true
+  pub ends : (name : RawName) → begins_end_named (letters_of name) (less_than_sign ∷ m)
+      ≡ begins_end_named (letters_of name) (less_than_sign ∷ n)
+  pub script_ends : begins_end_named script_letters (less_than_sign ∷ m)
+      ≡ begins_end_named script_letters (less_than_sign ∷ n)
+
+text-framed : (m n z : List ℕ) → SameMark m n
     → Framed m n (past_text (z ++ (less_than_sign ∷ m))) (past_text (z ++ (less_than_sign ∷ n)))
 unfolding past_text
-text-framed m n [] h k = rw (begins-tag m h, begins-tag n k) (within [])
-text-framed m n (b ∷ z) h k =
+text-framed m n [] h = rw (h.one, h.other) (within [])
+text-framed m n (b ∷ z) h =
     if-same m n (begins_markup (b ∷ (z ++ (less_than_sign ∷ m))))
     (begins_markup (b ∷ (z ++ (less_than_sign ∷ n)))) (markup-same m n b z) (within (b ∷ z))
-    (text-framed m n z h k)
+    (text-framed m n z h)
 
-marked-framed : (m n : List ℕ) (foreign : Bool) (b : ℕ) (z : List ℕ) → starts_by is_letter m ≡ true
-    → starts_by is_letter n ≡ true
+marked-framed : (m n : List ℕ) (foreign : Bool) (b : ℕ) (z : List ℕ) → SameMark m n
     → TokenFramed m n (marked_token foreign b (z ++ (less_than_sign ∷ m)))
     (marked_token foreign b (z ++ (less_than_sign ∷ n)))
-marked-framed m n foreign b z h k =
+marked-framed m n foreign b z h =
     if-tokens m n (begins_markup (b ∷ (z ++ (less_than_sign ∷ m))))
     (begins_markup (b ∷ (z ++ (less_than_sign ∷ n)))) (markup-same m n b z)
     (markup-framed m n foreign (b ∷ z) z)
     (whole-framed m n kinds.Text (b ∷ z) (past_text (z ++ (less_than_sign ∷ m)))
-    (past_text (z ++ (less_than_sign ∷ n))) (text-framed m n z h k))
+    (past_text (z ++ (less_than_sign ∷ n))) (text-framed m n z h))
 
 -- ---- raw text
 
@@ -481,13 +490,14 @@ end-same : (m n letters : List ℕ) (b : ℕ) (z : List ℕ) → list_all is_no_
 end-same m n letters b z h = begins-over letters b z m h ∙ sym (begins-over letters b z n h)
 
 end_tag-framed : (m n letters z : List ℕ) → list_all is_no_mark letters ≡ true
-    → starts_by is_letter m ≡ true
+    → begins_end_named letters (less_than_sign ∷ m) ≡ begins_end_named letters (less_than_sign ∷ n)
     → Framed m n (from_end_tag letters (z ++ (less_than_sign ∷ m)))
     (from_end_tag letters (z ++ (less_than_sign ∷ n)))
 unfolding from_end_tag
 end_tag-framed m n letters [] plain h =
-    rw (not_end letters m h)
-    (beyond (from_end_tag letters m) (from_end_tag letters (less_than_sign ∷ n))
+    if-same m n (begins_end_named letters (less_than_sign ∷ m))
+    (begins_end_named letters (less_than_sign ∷ n)) h (within [])
+    (beyond (from_end_tag letters m) (from_end_tag letters n)
     (length-ends m (from_end_tag letters m) (end_tag-ends letters m)))
 end_tag-framed m n letters (b ∷ z) plain h =
     if-same m n (begins_end_named letters (b ∷ (z ++ (less_than_sign ∷ m))))
@@ -518,7 +528,7 @@ framed-by : (m n : List ℕ) {t u v w : PlacedToken} → t ≡ v → u ≡ w →
     → TokenFramed m n t u
 framed-by m n e f h = rw (e, f) h
 
-raw-step : (letters : List ℕ) (b : ℕ) (text : List ℕ) (k : Bool)
+pub raw-step : (letters : List ℕ) (b : ℕ) (text : List ℕ) (k : Bool)
     → begins_end_named letters (b ∷ text) ≡ k
     → raw_token (b ∷ text) (from_end_tag letters (b ∷ text))
     ≡ (if k then tag_from kinds.EndTag (b ∷ text) (drop 2 (b ∷ text))
@@ -530,7 +540,7 @@ raw-step letters b text false e =
     (length-ends text (from_end_tag letters text) (end_tag-ends letters text)))
 
 raw-framed : (m n letters : List ℕ) (b : ℕ) (z : List ℕ) → list_all is_no_mark letters ≡ true
-    → starts_by is_letter m ≡ true
+    → begins_end_named letters (less_than_sign ∷ m) ≡ begins_end_named letters (less_than_sign ∷ n)
     → TokenFramed m n
     (raw_token (b ∷ (z ++ (less_than_sign ∷ m))) (from_end_tag letters (b ∷ (z ++ (less_than_sign ∷ m)))))
     (raw_token (b ∷ (z ++ (less_than_sign ∷ n))) (from_end_tag letters (b ∷ (z ++ (less_than_sign ∷ n)))))
@@ -597,16 +607,23 @@ step-same m n DoubleEscaped b z =
     else (if k then Escaped else DoubleEscaped)) (end-same m n script_letters b z script-plain)
 
 script_end-framed : (m n : List ℕ) (one other : ScriptState) (z : List ℕ) → one ≡ other
-    → starts_by is_letter m ≡ true
+    → begins_end_named script_letters (less_than_sign ∷ m)
+    ≡ begins_end_named script_letters (less_than_sign ∷ n)
     → Framed m n (from_script_end one (z ++ (less_than_sign ∷ m)))
     (from_script_end other (z ++ (less_than_sign ∷ n)))
 unfolding from_script_end
 script_end-framed m n one other [] e h =
     let state : ScriptState = script_step one (less_than_sign ∷ m) in
-    let none : (may_end one && begins_end_named script_letters (less_than_sign ∷ m)) ≡ false =
-    ap (λ (k : Bool). may_end one && k) (not_end script_letters m h) ∙ and-none (may_end one) in
-    rw none (beyond (from_script_end state m) (from_script_end other (less_than_sign ∷ n))
+    let new_state : ScriptState = script_step other (less_than_sign ∷ n) in
+    if-same m n
+    (may_end one && begins_end_named script_letters (less_than_sign ∷ m))
+    (may_end other && begins_end_named script_letters (less_than_sign ∷ n))
+    (both (ap may_end e) h) (within [])
+    (beyond (from_script_end state m) (from_script_end new_state n)
     (length-ends m (from_script_end state m) (script_end-ends state m)))
+  where
+    both : {a c d f : Bool} → a ≡ c → d ≡ f → (a && d) ≡ (c && f)
+    both p q = rw (p, q) refl
 script_end-framed m n one other (b ∷ z) e h =
     if-same m n
     (may_end one && begins_end_named script_letters (b ∷ (z ++ (less_than_sign ∷ m))))
@@ -621,7 +638,7 @@ script_end-framed m n one other (b ∷ z) e h =
     both : {a c d f : Bool} → a ≡ c → d ≡ f → (a && d) ≡ (c && f)
     both p q = rw (p, q) refl
 
-script-step : (b : ℕ) (text : List ℕ) (k : Bool) → begins_end_named script_letters (b ∷ text) ≡ k
+pub script-step : (b : ℕ) (text : List ℕ) (k : Bool) → begins_end_named script_letters (b ∷ text) ≡ k
     → raw_token (b ∷ text) (from_script_end Plain (b ∷ text))
     ≡ (if k then tag_from kinds.EndTag (b ∷ text) (drop 2 (b ∷ text))
     else whole kinds.Text (b ∷ text) (from_script_end (script_step Plain (b ∷ text)) text))
@@ -632,7 +649,9 @@ script-step b text false e =
     rw e (raw-whole b text (from_script_end state text)
     (length-ends text (from_script_end state text) (script_end-ends state text)))
 
-script-framed : (m n : List ℕ) (b : ℕ) (z : List ℕ) → starts_by is_letter m ≡ true
+script-framed : (m n : List ℕ) (b : ℕ) (z : List ℕ)
+    → begins_end_named script_letters (less_than_sign ∷ m)
+    ≡ begins_end_named script_letters (less_than_sign ∷ n)
     → TokenFramed m n
     (raw_token (b ∷ (z ++ (less_than_sign ∷ m))) (from_script_end Plain (b ∷ (z ++ (less_than_sign ∷ m)))))
     (raw_token (b ∷ (z ++ (less_than_sign ∷ n))) (from_script_end Plain (b ∷ (z ++ (less_than_sign ∷ n)))))
@@ -666,17 +685,16 @@ script-framed m n b (c ∷ z) h =
         (script_end-framed m n (script_step Plain (b ∷ s)) (script_step Plain (b ∷ t)) (c ∷ z)
         (step-same m n Plain b (c ∷ z)) h))
 
-token-framed : (m n : List ℕ) (mode : Mode) (b : ℕ) (z : List ℕ)
-    → starts_by is_letter m ≡ true → starts_by is_letter n ≡ true
+token-framed : (m n : List ℕ) (mode : Mode) (b : ℕ) (z : List ℕ) → SameMark m n
     → TokenFramed m n (token_from mode b (z ++ (less_than_sign ∷ m)))
     (token_from mode b (z ++ (less_than_sign ∷ n)))
 unfolding token_from
-token-framed m n Data b z h k = marked-framed m n false b z h k
-token-framed m n Foreign b z h k = marked-framed m n true b z h k
-token-framed m n (Raw name) b z h k =
-    raw-framed m n (letters_of name) b z (letters-plain name) h
-token-framed m n Script b z h k = script-framed m n b z h
-token-framed m n Plaintext b z h k = past_it _ _ (omega arith)
+token-framed m n Data b z h = marked-framed m n false b z h
+token-framed m n Foreign b z h = marked-framed m n true b z h
+token-framed m n (Raw name) b z h =
+    raw-framed m n (letters_of name) b z (letters-plain name) (h.ends name)
+token-framed m n Script b z h = script-framed m n b z h.script_ends
+token-framed m n Plaintext b z h = past_it _ _ (omega arith)
 
 -- ---- what is read
 
@@ -695,7 +713,7 @@ abbrev pub token_or : PlacedToken → Option (PlacedToken × List ℕ) → Place
 token_or t None = t
 token_or t (Some x) = x.0
 
-first-same : (mode : Mode) (b : ℕ) (text : List ℕ) (t : PlacedToken)
+pub first-same : (mode : Mode) (b : ℕ) (text : List ℕ) (t : PlacedToken)
     → next_token mode (b ∷ text) ≡ Some (t, t.rest) → t ≡ token_from mode b text
 unfolding next_token
 first-same mode b text t e = ap (token_or t) (sym e)
@@ -720,7 +738,7 @@ reads-less drive seen found text rest (reads_one _ _ _ more t e r) =
     omega (arith, reads-less drive (seen ++ said t ∷ []) more t.rest rest r, next-less (drive seen) text t e)
 
 -- the token at the start, in both pages
-next-is : (mode : Mode) (b : ℕ) (text : List ℕ)
+pub next-is : (mode : Mode) (b : ℕ) (text : List ℕ)
     → next_token mode (b ∷ text) ≡ Some (token_from mode b text, (token_from mode b text).rest)
 unfolding next_token
 next-is mode b text = refl
@@ -767,34 +785,51 @@ step drive m n seen more text t u e (alike kind w i f z) less go =
     rw same (reads_one seen text (less_than_sign ∷ n) more u e (rw (← same) (go z refl)))
 
 local : (drive : TextDriver) (m n : List ℕ) (seen found : List Said) (text rest z : List ℕ)
-    → starts_by is_letter m ≡ true → starts_by is_letter n ≡ true
+    → SameMark m n
     → Reads drive seen text found rest → text ≡ z ++ (less_than_sign ∷ m) → rest ≡ less_than_sign ∷ m
     → Reads drive seen (z ++ (less_than_sign ∷ n)) found (less_than_sign ∷ n)
-local drive m n seen found text rest [] h k (reads_none _ _) p q = reads_none seen (less_than_sign ∷ n)
-local drive m n seen found text rest (b ∷ z) h k (reads_none _ _) p q =
+local drive m n seen found text rest [] h (reads_none _ _) p q = reads_none seen (less_than_sign ∷ n)
+local drive m n seen found text rest (b ∷ z) h (reads_none _ _) p q =
     absurd (omega (arith, ap length p, ap length q, length-append z (less_than_sign ∷ m)))
-local drive m n seen found text rest [] h k (reads_one _ _ _ more t e r) p q =
+local drive m n seen found text rest [] h (reads_one _ _ _ more t e r) p q =
     let less : length t.rest ≤ length m = first-less (drive seen) less_than_sign m t (rw p at e) in
     absurd (omega (arith, less, ap length q, reads-less drive (seen ++ said t ∷ []) more t.rest rest r))
-local drive m n seen found text rest (b ∷ z) h k (reads_one _ _ _ more t e r) p q =
+local drive m n seen found text rest (b ∷ z) h (reads_one _ _ _ more t e r) p q =
     let same : t ≡ token_from (drive seen) b (z ++ (less_than_sign ∷ m)) =
     first-same (drive seen) b (z ++ (less_than_sign ∷ m)) t (rw p at e) in
     let few : length rest ≤ length t.rest = reads-less drive (seen ++ said t ∷ []) more t.rest rest r in
     let framed_token : TokenFramed m n t (token_from (drive seen) b (z ++ (less_than_sign ∷ n))) =
-    rw same (token-framed m n (drive seen) b z h k) in
+    rw same (token-framed m n (drive seen) b z h) in
     step drive m n seen more (b ∷ (z ++ (less_than_sign ∷ n))) t
     (token_from (drive seen) b (z ++ (less_than_sign ∷ n)))
     (next-is (drive seen) b (z ++ (less_than_sign ∷ n)))
     framed_token (omega (arith, few, ap length q))
-    (λ y f. local drive m n (seen ++ said t ∷ []) more t.rest rest y h k r f q)
+    (λ y f. local drive m n (seen ++ said t ∷ []) more t.rest rest y h r f q)
+
+-- What is read before markup is read before other markup too.
+pub marks-local : (drive : TextDriver) (seen : List Said) (front m n : List ℕ)
+    (found : List Said) → SameMark m n
+    → Reads drive seen (front ++ (less_than_sign ∷ m)) found (less_than_sign ∷ m)
+    → Reads drive seen (front ++ (less_than_sign ∷ n)) found (less_than_sign ∷ n)
+marks-local drive seen front m n found h r =
+    local drive m n seen found (front ++ (less_than_sign ∷ m)) (less_than_sign ∷ m) front h r refl refl
+
+-- start tags are such markup
+tags-alike : (m n : List ℕ) → starts_by is_letter m ≡ true → starts_by is_letter n ≡ true
+    → SameMark m n
+tags-alike m n h k = record {
+  one = begins-tag m h;
+  other = begins-tag n k;
+  ends = λ name. not_end (letters_of name) m h ∙ sym (not_end (letters_of name) n k);
+  script_ends = not_end script_letters m h ∙ sym (not_end script_letters n k);
+}
 
 pub tags-local-after : (drive : TextDriver) (seen : List Said) (front tag other : List ℕ)
     (found : List Said) → starts_by is_letter tag ≡ true → starts_by is_letter other ≡ true
     → Reads drive seen (front ++ (less_than_sign ∷ tag)) found (less_than_sign ∷ tag)
     → Reads drive seen (front ++ (less_than_sign ∷ other)) found (less_than_sign ∷ other)
 tags-local-after drive seen front tag other found h k r =
-    local drive tag other seen found (front ++ (less_than_sign ∷ tag)) (less_than_sign ∷ tag) front h k
-    r refl refl
+    marks-local drive seen front tag other found (tags-alike tag other h k) r
 
 pub tags-local : (drive : TextDriver) (front tag other : List ℕ) (found : List Said)
     → starts_by is_letter tag ≡ true → starts_by is_letter other ≡ true

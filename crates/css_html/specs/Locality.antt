@@ -1,10 +1,12 @@
 -- Which tokens of a page an edit leaves as they are.
-use Rattle.std.specs.Prelude.{◌≡◌, ℕ, ◌<◌, length, true, false, List, [], ◌∷◌, ◌++◌, take, codes, Some}
+use Rattle.std.specs.Prelude.{◌≡◌, ℕ, ◌<◌, ◌==◌, ◌&&◌, Bool, not, length, true, false, List, [], ◌∷◌, ◌++◌, ◌⊎◌, take, codes, Some}
+use Rattle.css_text.specs.AsciiBytes.{equals_sign}
 use Rattle.css_text.specs.Reading.{before}
-use Rattle.css_text.specs.Bytes.{starts_by}
-use Rattle.css_text.specs.Characters.{is_letter}
+use Rattle.css_text.specs.Bytes.{past, starts, starts_by}
+use Rattle.css_text.specs.Characters.{is_letter, is_space}
 use Rattle.std.specs.List.{list_all}
-use Rattle.css_html.specs.Marks.{less_than_sign, is_in_name, begins_end_named}
+use Rattle.css_html.specs.Marks.{less_than_sign, is_in_name, is_in_bare_value, is_between, past_text, begins_end_named}
+use Rattle.css_html.specs.Attributes.{PlacedAttribute, next_attribute, attributes, name_of, value_of}
 use Rattle.css_html.specs.Tokens.{PlacedToken, whole, tag_from, next_token}
 use Rattle.css_html.specs.Modes.{letters_of}
 use Rattle.css_html.specs.declared.modes.RawName.{RawName}
@@ -12,7 +14,7 @@ use Rattle.css_html.specs.declared.modes.RawName.TheVariants.{Style}
 use Rattle.css_html.specs.Written.{written, IsAttributeName, HasNoEnd}
 use Rattle.css_html.specs.declared.tokenizer.TokenKind.TheVariants as kinds
 use Rattle.css_html.specs.declared.modes.Mode.{Mode}
-use Rattle.css_html.specs.declared.modes.Mode.TheVariants.{Data, Raw}
+use Rattle.css_html.specs.declared.modes.Mode.TheVariants.{Data, Foreign, Raw, Script, Plaintext}
 use Rattle.css_html.specs.declared.tokenizer.TokenKind.{TokenKind}
 
 -- what a token says: its kind, its text, and what is in it. Its attributes are of its text.
@@ -107,6 +109,84 @@ ReplacedTagsAreLocal = (drive : TextDriver) (front old new rest : List ℕ) (fou
     ≡ drive ((found ++ said (tag_at new) ∷ []) ++ later))
     → Reads drive [] (front ++ (less_than_sign ∷ new)) (found ++ (said (tag_at new) ∷ more)) rest
 
+-- a text is this start tag, and nothing else
+pub record IsStartTag (text : List ℕ) (t : PlacedToken) : Type 0 where
+  pub whole : next_token Data text ≡ Some (t, [])
+  pub kind : t.kind ≡ kinds.StartTag
+
+-- A text that is one start tag, put in place of a start tag that was read, changes no other token of the page,
+-- for each driver for which the two tags are the same.
+abbrev pub WholeTagsAreLocal : Type 0
+WholeTagsAreLocal = (drive : TextDriver) (front old new after rest : List ℕ) (found more : List Said)
+    (tag : Said) (u : PlacedToken) → tag.kind ≡ kinds.StartTag → IsStartTag new u → drive found ≡ Data
+    → Reads drive [] (front ++ (old ++ after)) found (old ++ after)
+    → Reads drive found (old ++ after) (tag ∷ []) after → Reads drive (found ++ tag ∷ []) after more rest
+    → ((later : List Said) → drive ((found ++ tag ∷ []) ++ later) ≡ drive ((found ++ said u ∷ []) ++ later))
+    → Reads drive [] (front ++ (new ++ after)) (found ++ (said u ∷ more)) rest
+
+-- ---- an attribute replaced, put in or taken out anywhere in a tag
+
+-- an attribute's `=` has no value after it, as in `<a b=>`
+abbrev pub is_missing : PlacedAttribute → Bool
+is_missing a = length a.value == length a.rest && not (length a.name_end == length a.rest)
+
+-- From a place in a tag on, these attributes are read, and then this is left.
+pub data ReadsAttributes : (text : List ℕ) → (found : List PlacedAttribute) → (rest : List ℕ) → Type 0 where
+  no_attributes : (text : List ℕ) → ReadsAttributes text [] text
+  one_attribute : (text rest : List ℕ) (found : List PlacedAttribute) (a : PlacedAttribute)
+      → next_attribute text ≡ Some (a, a.rest) → is_missing a ≡ false
+      → ReadsAttributes a.rest found rest → ReadsAttributes text (a ∷ found) rest
+
+-- a byte that ends each value without quotes, and each name
+abbrev pub ends_value : ℕ → Bool
+ends_value b = not (is_in_bare_value b)
+
+-- A text may follow any attribute: it begins with a space byte or `>`, and after spaces no `=` follows, which
+-- would give an attribute before it a value.
+pub record MayFollow (text : List ℕ) : Type 0 where
+  pub ends : starts_by ends_value text ≡ true
+  pub no_value : starts equals_sign (past is_space text) ≡ false
+
+-- the names and values of attributes, as written
+abbrev pub names_and_values : List PlacedAttribute → List (List ℕ × List ℕ)
+names_and_values [] = []
+names_and_values (a ∷ more) = (name_of a, value_of a) ∷ names_and_values more
+
+-- Attributes that were read up to a place are read with the same names and values, before others, if another
+-- text follows the place.
+abbrev pub AttributesBeforeAreLocal : Type 0
+AttributesBeforeAreLocal = (front old new : List ℕ) (found : List PlacedAttribute) → 0 < length old
+    → ReadsAttributes (front ++ old) found old → MayFollow new
+    → (kept : List PlacedAttribute) × (names_and_values kept ≡ names_and_values found)
+    × (attributes (front ++ old) ≡ found ++ attributes old)
+    × (attributes (front ++ new) ≡ kept ++ attributes new)
+
+-- What becomes of a tag from a place between attributes on: an attribute is put in, or it takes the place of
+-- the next one, or the next one is taken out. What is left of that may need a space before it. Where it begins
+-- with `=` an attribute before it would get a value: `<a b c="1"=d>` without `c` is not `<a b =d>`.
+pub data ChangedFrom : (old new : List ℕ) → Type 0 where
+  put_in : (old name value : List ℕ) → IsAttributeName name → ChangedFrom old (written name value ++ old)
+  replaced : (old rest name value : List ℕ) (a : PlacedAttribute) → next_attribute old ≡ Some (a, rest)
+      → IsAttributeName name → ChangedFrom old (written name value ++ rest)
+  taken_out : (old rest new : List ℕ) (a : PlacedAttribute) → next_attribute old ≡ Some (a, rest)
+      → past is_between new ≡ past is_between rest → MayFollow new → ChangedFrom old new
+
+-- An attribute that is put in, replaced or taken out anywhere in a start tag changes no other token of the
+-- page, for each driver for which the two tags are the same. The tag is not cut by the end of the page.
+abbrev pub ChangedAttributesAreLocal : Type 0
+ChangedAttributesAreLocal = (drive : TextDriver) (front tag place old new rest : List ℕ)
+    (attributes : List PlacedAttribute) (found more : List Said) → starts_by is_letter tag ≡ true
+    → list_all is_in_name tag ≡ true → starts_by is_in_name (place ++ old) ≡ false → 0 < length old
+    → ReadsAttributes (place ++ old) attributes old → ChangedFrom old new → drive found ≡ Data
+    → Reads drive [] (front ++ (less_than_sign ∷ (tag ++ (place ++ old)))) found
+    (less_than_sign ∷ (tag ++ (place ++ old)))
+    → Reads drive (found ++ said (tag_at (tag ++ (place ++ old))) ∷ []) (tag_at (tag ++ (place ++ old))).rest
+    more rest
+    → ((later : List Said) → drive ((found ++ said (tag_at (tag ++ (place ++ old))) ∷ []) ++ later)
+    ≡ drive ((found ++ said (tag_at (tag ++ (place ++ new))) ∷ []) ++ later))
+    → Reads drive [] (front ++ (less_than_sign ∷ (tag ++ (place ++ new))))
+    (found ++ (said (tag_at (tag ++ (place ++ new))) ∷ more)) rest
+
 -- A text that begins with a start tag, put in before a start tag, changes no other token of the page if it
 -- is read as some tokens up to that tag, for each driver for which they are nothing.
 abbrev pub TextsPutInAreLocal : Type 0
@@ -129,6 +209,50 @@ TextsTakenOutAreLocal = (drive : TextDriver) (front put tag rest : List ℕ) (fo
     → ((later : List Said) → drive (found ++ later) ≡ drive ((found ++ middle) ++ later))
     → Reads drive [] (front ++ (less_than_sign ∷ tag)) (found ++ more) rest
 
+-- ---- a place between any two tokens
+
+-- texts
+abbrev pub is_text : TokenKind → Bool
+is_text kinds.Text = true
+is_text kinds.StartTag = false
+is_text kinds.EndTag = false
+is_text kinds.Comment = false
+is_text kinds.Doctype = false
+is_text kinds.Cdata = false
+is_text kinds.Nothing = false
+is_text kinds.Cut = false
+
+-- a mode in which markup is read
+abbrev pub reads_markup : Mode → Bool
+reads_markup Data = true
+reads_markup Foreign = true
+reads_markup (Raw name) = false
+reads_markup Script = false
+reads_markup Plaintext = false
+
+-- A text may follow a token that a driver read after others. Any text may follow markup. After text that was
+-- read between markup none may follow that begins with more text: `a<` and `b>` are not `a<b>`. Raw text goes
+-- on up to its end tag, so that nothing may follow it in place of that.
+abbrev pub MayFollowToken : TextDriver → (seen : List Said) → (last : Said) → (text : List ℕ) → Type 0
+MayFollowToken drive seen last text =
+    (is_text last.kind ≡ false) ⊎ ((reads_markup (drive seen) ≡ true) × (past_text text ≡ text))
+
+-- Texts are put in, taken out, or take the place of others, between any two tokens. No other token of the page
+-- is changed, if what is there is read as some tokens up to what comes next, for each driver for which these are
+-- as those that were there. Something follows the place, before and after: at the end of a page a token may be
+-- cut, and `<!` before `<style>` is a comment with that in it.
+abbrev pub EditsBetweenAreLocal : Type 0
+EditsBetweenAreLocal = (drive : TextDriver) (front old new text rest : List ℕ) (found : List Said)
+    (last : Said) (old_tokens new_tokens more : List Said) → 0 < length (old ++ text)
+    → 0 < length (new ++ text)
+    → Reads drive [] (front ++ (old ++ text)) (found ++ last ∷ []) (old ++ text)
+    → MayFollowToken drive found last (new ++ text)
+    → Reads drive (found ++ last ∷ []) (new ++ text) new_tokens text
+    → Reads drive ((found ++ last ∷ []) ++ old_tokens) text more rest
+    → ((later : List Said) → drive (((found ++ last ∷ []) ++ old_tokens) ++ later)
+    ≡ drive (((found ++ last ∷ []) ++ new_tokens) ++ later))
+    → Reads drive [] (front ++ (new ++ text)) (((found ++ last ∷ []) ++ new_tokens) ++ more) rest
+
 -- a `style` element with this text
 abbrev pub style_element : List ℕ → List ℕ
 style_element text = codes "<style>" ++ (text ++ codes "</style>")
@@ -148,6 +272,34 @@ StyleElementsAreRead = (drive : TextDriver) (seen : List Said) (text rest : List
     → drive (seen ++ take 1 (style_tokens text)) ≡ Raw Style
     → drive (seen ++ take 2 (style_tokens text)) ≡ Raw Style
     → Reads drive seen (style_element text ++ rest) (style_tokens text) rest
+
+-- A `style` element put in between any two tokens changes no other token of the page, for each driver that takes
+-- it for one and for which it is nothing. The token before it is markup, or text that was read between markup.
+abbrev pub StyleElementsAreLocal : Type 0
+StyleElementsAreLocal = (drive : TextDriver) (front inside text rest : List ℕ) (found : List Said)
+    (last : Said) (more : List Said) → 0 < length text → 0 < length inside
+    → HasNoEnd (letters_of Style) inside
+    → Reads drive [] (front ++ text) (found ++ last ∷ []) text
+    → (is_text last.kind ≡ false) ⊎ (reads_markup (drive found) ≡ true)
+    → drive (found ++ last ∷ []) ≡ Data
+    → drive ((found ++ last ∷ []) ++ take 1 (style_tokens inside)) ≡ Raw Style
+    → drive ((found ++ last ∷ []) ++ take 2 (style_tokens inside)) ≡ Raw Style
+    → Reads drive (found ++ last ∷ []) text more rest
+    → ((later : List Said) → drive ((found ++ last ∷ []) ++ later)
+    ≡ drive (((found ++ last ∷ []) ++ style_tokens inside) ++ later))
+    → Reads drive [] (front ++ (style_element inside ++ text))
+    (((found ++ last ∷ []) ++ style_tokens inside) ++ more) rest
+
+-- Such an element taken out changes no other token either. After text no text follows it.
+abbrev pub StyleElementsOutAreLocal : Type 0
+StyleElementsOutAreLocal = (drive : TextDriver) (front inside text rest : List ℕ) (found : List Said)
+    (last : Said) (more : List Said) → 0 < length text
+    → Reads drive [] (front ++ (style_element inside ++ text)) (found ++ last ∷ []) (style_element inside ++ text)
+    → MayFollowToken drive found last text
+    → Reads drive ((found ++ last ∷ []) ++ style_tokens inside) text more rest
+    → ((later : List Said) → drive (((found ++ last ∷ []) ++ style_tokens inside) ++ later)
+    ≡ drive ((found ++ last ∷ []) ++ later))
+    → Reads drive [] (front ++ text) ((found ++ last ∷ []) ++ more) rest
 
 -- Edits, from the first to the last. A text is read as some tokens by a driver that has seen others; with
 -- the edits it is another text, and these tokens are others. Between edits the text is the same, and the

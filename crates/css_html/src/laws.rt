@@ -4,6 +4,9 @@ ghost use Rattle.css_html.specs.Tokens.{Driver, tokens, texts_of};
 ghost use Rattle.css_html.specs.Locality.{AttributesAreLocal, ClosedTagsAreLocal, RawTextsAreLocal, TagsAreLocal};
 ghost use Rattle.css_html.specs.Locality.{ReplacedTagsAreLocal, StyleElementsAreRead, TextsPutInAreLocal};
 ghost use Rattle.css_html.specs.Locality.{EditsAreLocal, TextsTakenOutAreLocal};
+ghost use Rattle.css_html.specs.Locality.{EditsBetweenAreLocal, StyleElementsAreLocal, StyleElementsOutAreLocal};
+ghost use Rattle.css_html.specs.Locality.{WholeTagsAreLocal};
+ghost use Rattle.css_html.specs.Locality.{AttributesBeforeAreLocal, ChangedAttributesAreLocal};
 ghost use Rattle.css_html.specs.Written.{PuttingInChangesNoMore, RawTextIsItself, WrittenReadsBack};
 
 /// The tokens of a page are the page, one after another, whatever decides in which mode each is read.
@@ -37,6 +40,21 @@ pub fn attributes_are_local()
     ensures { AttributesAreLocal }
 {}
 
+/// A text that is one start tag, put in place of a start tag that was read, changes no other token of the page.
+pub fn whole_tags_are_local()
+    ensures { WholeTagsAreLocal }
+{}
+
+/// Attributes that are read before a place in a tag are read so whatever attribute, or end of the tag, follows.
+pub fn attributes_before_are_local()
+    ensures { AttributesBeforeAreLocal }
+{}
+
+/// An attribute that is put in, replaced or taken out anywhere in a start tag changes no other token of the page.
+pub fn changed_attributes_are_local()
+    ensures { ChangedAttributesAreLocal }
+{}
+
 /// A start tag that is closed is read in the same way whatever follows it.
 pub fn closed_tags_are_local()
     ensures { ClosedTagsAreLocal }
@@ -66,6 +84,21 @@ pub fn texts_taken_out_are_local()
 /// A `style` element is three tokens, whatever follows it.
 pub fn style_elements_are_read()
     ensures { StyleElementsAreRead }
+{}
+
+/// Texts put in, taken out or replaced between any two tokens change no other token of the page.
+pub fn edits_between_are_local()
+    ensures { EditsBetweenAreLocal }
+{}
+
+/// A `style` element put in between any two tokens changes no other token of the page.
+pub fn style_elements_are_local()
+    ensures { StyleElementsAreLocal }
+{}
+
+/// A `style` element that is taken out changes no other token of the page.
+pub fn style_elements_out_are_local()
+    ensures { StyleElementsOutAreLocal }
 {}
 
 /// With any number of edits, each of which is like one of these, no other token of the page is changed.

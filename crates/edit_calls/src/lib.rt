@@ -1,4 +1,4 @@
-//! Edits of an HTML page, as numbers and strings that callers in any language pass.
+//! Edits of a page in HTML or XML, as numbers and strings that callers in any language pass.
 #![tactic(auto)]
 
 pub mod calls;

@@ -95,13 +95,15 @@ impl<'a> Numbers<'a> {
     /// Returns an edit that changes no attribute, if it is one.
     fn edit(&self, index: usize) -> Option<Edit<'a>> {
         let row = self.row(index)?;
+        let place = row.place.saturating_sub(self.start);
         let end = row.end.saturating_sub(self.start);
         let text = self.text(index)?;
         match row.kind {
             4 => Some(Edit::Text(row.place, end, text)),
-            5 => Some(Edit::PutIn(row.place.saturating_sub(self.start), text)),
+            5 => Some(Edit::PutIn(place, self.name(index)?, text)),
             6 => Some(Edit::TakeOut(row.place, end)),
             7 => Some(Edit::Replace(row.place, end, text)),
+            8 => Some(Edit::TakeOutInstruction(place, end)),
             _ => None,
         }
     }

@@ -4,6 +4,8 @@
 //! texts. `words` has the names of elements and attributes.
 #![tactic(auto)]
 
+pub mod documents;
+pub mod encodings;
 mod nodes;
 pub mod pages;
 mod tags;

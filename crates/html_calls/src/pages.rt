@@ -1,8 +1,12 @@
 //! Reads a page, and writes its numbers and its strings.
 
-ghost use Rattle.std.specs.Prelude.{◌≡◌, IfOk, map, length};
+ghost use Rattle.std.specs.Prelude.{◌≡◌, IfOk, map, length, None};
 ghost use Rattle.css_html.specs.Views.{token_of};
-ghost use Rattle.html_calls.specs.Pages.{ArePageNumbers, IsFront, tags_front};
+ghost use Rattle.html_edits.specs.Editing.{IsRead};
+ghost use Rattle.html_edits.specs.declared.edits.Language.TheVariants.{Html};
+ghost use Rattle.page_sheets.specs.Page.{nodes_from};
+ghost use Rattle.page_sheets.specs.Sheets.{numbers_of};
+ghost use Rattle.html_calls.specs.Pages.{ArePageNumbers, HasEnd, HasEnds, tags_front};
 ghost use Rattle.html_calls.specs.Pages.{past_mark as past_mark_of};
 
 use crate::nodes::{Nodes, kind_within, number_of};
@@ -11,6 +15,7 @@ use css_html::decoding::TextKind;
 use css_html_tree::names::{Space, name_of};
 use css_html_tree::page::{Context, Fault, Options, Page, Row};
 use css_html_tree::reading::read_page;
+use page_sheets::page::push_page_sheets;
 use std::alloc::{AllocError, Global};
 
 /// How a page is read, and what is written of it.
@@ -29,7 +34,8 @@ pub struct Answer {
     /// and merged tags there are; whether it is in quirks mode, and whether browsers read it in
     /// different ways; where its head ends, and 1, or 0; of each tag how many attributes it has; five numbers
     /// of each attribute; six of each element; five of each other node; the element and the tag of each
-    /// merged tag; and where each string ends.
+    /// merged tag; where each string ends; the number of the tag of the `base`, or 0; how many sheets there are;
+    /// and two numbers of each sheet.
     pub numbers: Vec<usize>,
     /// The names and the values of the attributes, then the names of the elements, and then what the
     /// other nodes say.
@@ -37,7 +43,7 @@ pub struct Answer {
 }
 
 /// Returns the text after a mark of the order of bytes.
-fn past_mark(bytes: &[u8]) -> &[u8]
+pub(crate) fn past_mark(bytes: &[u8]) -> &[u8]
     ensures { result.now ≡ past_mark_of bytes.now }
 {
     match bytes {
@@ -114,7 +120,10 @@ fn rest_of(
     page: &[u8],
     read: &Page<'_>,
     reading: &Reading<'_>,
-) -> Result<Answer, AllocError> {
+) -> Result<Answer, AllocError>
+    ensures { IfOk result (λ answer. HasEnd
+        (numbers_of (nodes_from read.now.tags.items None read.now.rows.items)) answer.numbers.items) }
+{
     let mut strings = Strings::new(alloc);
     let (mut counts, mut attributes) = (Vec::new(alloc), Vec::new(alloc));
     let spaces = spaces_of(alloc, read.tags.len(), read.rows.as_slice())?;
@@ -150,6 +159,7 @@ fn rest_of(
     ] {
         numbers.extend_from_slice(more)?;
     }
+    push_page_sheets(alloc, &mut numbers, read.tags.as_slice(), rows)?;
     Ok(Answer {
         numbers,
         strings: strings.bytes,
@@ -164,8 +174,8 @@ fn answer_of(
     read: &Page<'_>,
     reading: &Reading<'_>,
 ) -> Result<Answer, AllocError>
-    ensures { IfOk result (λ answer. IsFront (tags_front size (map token_of read.now.tags.items))
-        answer.numbers.items) }
+    ensures { IfOk result (λ answer. HasEnds (tags_front size (map token_of read.now.tags.items))
+        (numbers_of (nodes_from read.now.tags.items None read.now.rows.items)) answer.numbers.items) }
 {
     let mut numbers = Vec::new(alloc);
     numbers.push(read.tags.len())?;
@@ -178,12 +188,19 @@ fn answer_of(
     })
 }
 
+/// Reads the start tags and the nodes of a page.
+fn page_of<'a>(alloc: Global, page: &'a [u8], options: &Options<'a>) -> Result<Page<'a>, Fault>
+    ensures { IfOk result (λ found. IsRead Html page.now found.tags.items found.rows.items) }
+{
+    read_page(alloc, page, options)
+}
+
 /// Reads a page in UTF-8, of which a mark of the order of bytes at its front is no part.
 pub fn read(alloc: Global, bytes: &[u8], reading: &Reading<'_>) -> Result<Answer, Fault>
     ensures { IfOk result (λ answer. ArePageNumbers (length bytes.now) (past_mark_of bytes.now)
         answer.numbers.items) }
 {
     let page = past_mark(bytes);
-    let read = read_page(alloc, page, &reading.options)?;
+    let read = page_of(alloc, page, &reading.options)?;
     Ok(answer_of(alloc, bytes.len(), page, &read, reading)?)
 }

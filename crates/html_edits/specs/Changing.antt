@@ -5,21 +5,25 @@ use Rattle.css_html.specs.Tokens.{PlacedToken, next_token}
 use Rattle.css_html.specs.declared.modes.Mode.TheVariants.{Data}
 use Rattle.css_html.specs.declared.tokenizer.TokenKind.TheVariants.{StartTag}
 use Rattle.html_edits.specs.Attributes.{same_name, value_in, tag_name}
+use Rattle.css_xml.specs.Tokens as xml
 use Rattle.html_edits.specs.declared.edits.Change.{Change}
+use Rattle.html_edits.specs.declared.edits.Language.{Language}
+use Rattle.html_edits.specs.declared.edits.Language.TheVariants.{Html, Xml}
 use Rattle.html_edits.specs.declared.edits.NewValue.{NewValue}
 use Rattle.html_edits.specs.declared.edits.NewValue.TheVariants.{Set, Before, Removed}
 
 -- one of the changes is of the attribute with this name
-abbrev pub is_changed : List Change → (name : List ℕ) → Bool
-is_changed [] name = false
-is_changed (c ∷ changes) name =
-    if same_name c.name.now name then true else is_changed changes name
+abbrev pub is_changed : Language → List Change → (name : List ℕ) → Bool
+is_changed language [] name = false
+is_changed language (c ∷ changes) name =
+    if same_name language c.name.now name then true else is_changed language changes name
 
 -- the attributes that the changes are not of
-abbrev pub others : List Change → List PlacedAttribute → List PlacedAttribute
-others changes [] = []
-others changes (a ∷ more) =
-    if is_changed changes (name_of a) then others changes more else a ∷ others changes more
+abbrev pub others : Language → List Change → List PlacedAttribute → List PlacedAttribute
+others language changes [] = []
+others language changes (a ∷ more) =
+    if is_changed language changes (name_of a) then others language changes more
+    else a ∷ others language changes more
 
 -- an attribute as it is written: its name, and its value
 abbrev pub name_and_value : PlacedAttribute → List ℕ × List ℕ
@@ -42,22 +46,30 @@ new_value (Before value) own = Some (and_own value.now own)
 new_value Removed own = None
 
 -- Each attribute that changes has the value that it gets, and none if it is removed.
-abbrev pub AreMade : List Change → (old new : List PlacedAttribute) → Type 0
-AreMade [] old new = Unit {0}
-AreMade (c ∷ changes) old new =
-    (value_in c.name.now new ≡ new_value c.value (value_in c.name.now old)) × AreMade changes old new
+abbrev pub AreMade : Language → List Change → (old new : List PlacedAttribute) → Type 0
+AreMade language [] old new = Unit {0}
+AreMade language (c ∷ changes) old new =
+    (value_in language c.name.now new ≡ new_value c.value (value_in language c.name.now old))
+    × AreMade language changes old new
 
 -- A start tag has the same name as another one. Attributes that change have exactly their new values, and all
 -- others are written as they were, in order.
-pub record IsNewTag (tag : PlacedToken) (changes : List Change) (new : PlacedToken) : Type 0 where
+pub record IsNewTag (language : Language) (tag : PlacedToken) (changes : List Change) (new : PlacedToken)
+    : Type 0 where
   pub name : tag_name new ≡ tag_name tag
-  pub same : names_and_values (others changes (attributes new.inside_end))
-      ≡ names_and_values (others changes (attributes tag.inside_end))
-  pub made : AreMade changes (attributes tag.inside_end) (attributes new.inside_end)
+  pub same : names_and_values (others language changes (attributes new.inside_end))
+      ≡ names_and_values (others language changes (attributes tag.inside_end))
+  pub made : AreMade language changes (attributes tag.inside_end) (attributes new.inside_end)
+
+-- what is read of a text that begins with markup, and the rest
+abbrev pub token_in : Language → List ℕ → Option (PlacedToken × List ℕ)
+token_in Html text = next_token Data text
+token_in Xml text = xml.next_token text
 
 -- A text is one start tag, which is another one with changes.
-pub record IsChanged (tag : PlacedToken) (changes : List Change) (text : List ℕ) : Type 0 where
-  pub new : PlacedToken
-  pub whole : next_token Data text ≡ Some (new, [])
-  pub kind : new.kind ≡ StartTag
-  pub tags : IsNewTag tag changes new
+pub record IsChanged (language : Language) (tag : PlacedToken) (changes : List Change) (text : List ℕ) : Type 0
+  where
+    pub new : PlacedToken
+    pub whole : token_in language text ≡ Some (new, [])
+    pub kind : new.kind ≡ StartTag
+    pub tags : IsNewTag language tag changes new

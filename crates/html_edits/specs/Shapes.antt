@@ -5,19 +5,21 @@ use Rattle.css_html_tree.specs.declared.page.Row.{Row}
 use Rattle.css_html_tree.specs.declared.page.NodeKind.{NodeKind}
 use Rattle.css_html_tree.specs.declared.page.NodeKind.TheVariants.{Document, Element, Text, Cdata, Comment, Doctype}
 use Rattle.html_edits.specs.Attributes.{is_style_tag, is_link_tag}
+use Rattle.html_edits.specs.declared.edits.Language.{Language}
 use Rattle.html_edits.specs.declared.shapes.Shape.{Shape}
 use Rattle.html_edits.specs.declared.shapes.Mark.{Mark}
 use Rattle.html_edits.specs.declared.shapes.Mark.TheVariants.{Implied, Sheet, Tag}
 
 -- the tag is that of a sheet
-abbrev pub is_sheet_tag : PlacedToken → Bool
-is_sheet_tag t = is_style_tag t || is_link_tag t
+abbrev pub is_sheet_tag : Language → PlacedToken → Bool
+is_sheet_tag language t = is_style_tag language t || is_link_tag language t
 
 -- The index of each tag among those that are not of sheets, of which the first gets this one.
-abbrev pub ranks_from : ℕ → List PlacedToken → List (Option ℕ)
-ranks_from n [] = []
-ranks_from n (t ∷ tags) =
-    if is_sheet_tag t then None ∷ ranks_from n tags else Some n ∷ ranks_from (suc n) tags
+abbrev pub ranks_from : Language → ℕ → List PlacedToken → List (Option ℕ)
+ranks_from language n [] = []
+ranks_from language n (t ∷ tags) =
+    if is_sheet_tag language t then None ∷ ranks_from language n tags
+    else Some n ∷ ranks_from language (suc n) tags
 
 -- a tag by its rank, if it has one
 abbrev pub mark_of_rank : Option (Option ℕ) → Mark

@@ -1,7 +1,17 @@
 //! What an edit is, and why it is refused.
 
 use css_html_tree::page::Fault;
+use css_xml::faults::Fault as XmlFault;
 use std::alloc::{AllocError, AllocFailed};
+
+/// The language that a page is in.
+#[derive(Clone, Copy, Debug, PartialEq)]
+pub enum Language {
+    /// HTML.
+    Html,
+    /// XML: the page is a document, as drawings are.
+    Xml,
+}
 
 /// What becomes of an attribute.
 #[derive(Clone, Copy)]
@@ -17,7 +27,7 @@ pub enum NewValue<'a> {
 /// A change of the attribute with a name.
 #[derive(Clone, Copy)]
 pub struct Change<'a> {
-    /// Its name, which the tag may have in any case.
+    /// Its name, which a tag of HTML may have in any case.
     pub name: &'a [u8],
     /// What becomes of it.
     pub value: NewValue<'a>,
@@ -30,12 +40,14 @@ pub enum Edit<'a> {
     Tag(usize, &'a [Change<'a>]),
     /// What is between the tag of a `style` element and a place becomes this text.
     Text(usize, usize, &'a [u8]),
-    /// A `style` element with this text is put in at a place.
-    PutIn(usize, &'a [u8]),
+    /// A `style` element is put in at a place, in XML with a prefix: the place, the prefix, and the text.
+    PutIn(usize, &'a [u8], &'a [u8]),
     /// The `link` or the `style` element that begins with a tag and ends at a place is taken out.
     TakeOut(usize, usize),
-    /// A `style` element with this text takes the place of such an element.
+    /// A `style` element with this text takes the place of such an element, in XML with its prefix.
     Replace(usize, usize, &'a [u8]),
+    /// An instruction of XML that names a sheet, between two places, is taken out.
+    TakeOutInstruction(usize, usize),
 }
 
 /// Why a page is not edited.
@@ -45,7 +57,8 @@ pub enum Refusal {
     Memory,
     /// Elements are nested in a way that takes time or elements out of proportion.
     TooDeep,
-    /// The edits are not in order, one is where it cannot be, or the text of a `style` element would end it.
+    /// The edits are not in order, one is where it cannot be, or the text of a `style` element would end it. Or the
+    /// page is no document of XML, or none with the edits.
     Misplaced,
     /// With the edits of this tag, or of one before it, the page has another tree, or the tag is not read as
     /// it is meant.
@@ -69,6 +82,16 @@ impl From<Fault> for Refusal {
         match fault {
             Fault::Memory => Refusal::Memory,
             Fault::TooDeep | Fault::TooLong => Refusal::TooDeep,
+        }
+    }
+}
+
+impl From<XmlFault> for Refusal {
+    fn from(fault: XmlFault) -> Refusal {
+        match fault {
+            XmlFault::Memory => Refusal::Memory,
+            XmlFault::TooMany => Refusal::TooDeep,
+            XmlFault::NotWellFormed(..) => Refusal::Misplaced,
         }
     }
 }

@@ -5,7 +5,7 @@ ghost use Rattle.html_edits.specs.Changing.{IsChanged};
 
 use crate::attributes::{attributes_from, first_named, same_name};
 use crate::changing::is_changed_tag;
-use crate::edits::{Change, NewValue, Refusal};
+use crate::edits::{Change, Language, NewValue, Refusal};
 use crate::values::write_value;
 use css_html::attributes::Attribute;
 use css_html::marks::text_between;
@@ -16,9 +16,9 @@ use std::alloc::{AllocError, Global};
 const QUOTE: u8 = b'"';
 
 /// Returns what becomes of the attribute with a name, if it changes.
-fn change_of<'a>(changes: &[Change<'a>], name: &[u8]) -> Option<Change<'a>> {
+fn change_of<'a>(language: Language, changes: &[Change<'a>], name: &[u8]) -> Option<Change<'a>> {
     for change in changes {
-        if same_name(change.name, name) {
+        if same_name(language, change.name, name) {
             return Some(*change);
         }
     }
@@ -50,8 +50,8 @@ fn quote_of(attribute: &Attribute<'_>) -> Option<u8> {
 
 /// Returns the quote that a new value of an attribute is in, if it is that of the old one. Declarations often
 /// have the other quotes.
-fn kept_quote(name: &[u8], attribute: &Attribute<'_>) -> Option<u8> {
-    if same_name(name, b"style") {
+fn kept_quote(language: Language, name: &[u8], attribute: &Attribute<'_>) -> Option<u8> {
+    if same_name(language, name, b"style") {
         quote_of(attribute)
     } else {
         None
@@ -61,6 +61,7 @@ fn kept_quote(name: &[u8], attribute: &Attribute<'_>) -> Option<u8> {
 /// Appends a value and, after it, an attribute's own one, in quotes.
 fn write_quoted(
     out: &mut Vec<u8>,
+    language: Language,
     value: &[u8],
     own: Option<&Attribute<'_>>,
     quote: Option<u8>,
@@ -68,7 +69,7 @@ fn write_quoted(
     let mark = quote.unwrap_or(QUOTE);
     out.push(b'=')?;
     out.push(mark)?;
-    write_value(out, mark, value)?;
+    write_value(out, language, mark, value)?;
     if let Some(own) = own {
         let written = text_between(own.value, own.value_end);
         for byte in written {
@@ -111,6 +112,7 @@ fn write_gap(
 /// Appends an attribute with what becomes of it, after what is before it.
 fn write_changed(
     out: &mut Vec<u8>,
+    language: Language,
     before: &[u8],
     attribute: &Attribute<'_>,
     change: Option<Change<'_>>,
@@ -127,12 +129,13 @@ fn write_changed(
         NewValue::Set(value) => {
             out.extend_from_slice(before)?;
             out.extend_from_slice(change.name)?;
-            write_quoted(out, value, None, kept_quote(change.name, attribute))?;
+            let quote = kept_quote(language, change.name, attribute);
+            write_quoted(out, language, value, None, quote)?;
         }
         NewValue::Before(value) => {
             out.extend_from_slice(before)?;
             out.extend_from_slice(change.name)?;
-            write_quoted(out, value, Some(attribute), quote_of(attribute))?;
+            write_quoted(out, language, value, Some(attribute), quote_of(attribute))?;
         }
     }
     write_gap(out, attribute, true)
@@ -141,16 +144,17 @@ fn write_changed(
 /// Appends the attributes that a tag does not have.
 fn write_new(
     out: &mut Vec<u8>,
+    language: Language,
     attributes: &[Attribute<'_>],
     changes: &[Change<'_>],
 ) -> Result<(), AllocError> {
     for change in changes {
-        let is_there = first_named(change.name, attributes).is_some();
+        let is_there = first_named(language, change.name, attributes).is_some();
         match change.value {
             NewValue::Set(value) | NewValue::Before(value) if !is_there => {
                 out.push(b' ')?;
                 out.extend_from_slice(change.name)?;
-                write_quoted(out, value, None, None)?;
+                write_quoted(out, language, value, None, None)?;
             }
             _ => {}
         }
@@ -161,6 +165,7 @@ fn write_new(
 /// Returns a start tag with changes of its attributes. New ones are after its own.
 fn rewritten(
     alloc: Global,
+    language: Language,
     tag: &Token<'_>,
     changes: &[Change<'_>],
 ) -> Result<Vec<u8>, AllocError> {
@@ -171,10 +176,11 @@ fn rewritten(
     for attribute in attributes.iter() {
         let name = text_between(attribute.from, attribute.name_end);
         let before = text_between(last, attribute.from);
-        write_changed(&mut out, before, attribute, change_of(changes, name))?;
+        let change = change_of(language, changes, name);
+        write_changed(&mut out, language, before, attribute, change)?;
         last = attribute.rest;
     }
-    write_new(&mut out, attributes.as_slice(), changes)?;
+    write_new(&mut out, language, attributes.as_slice(), changes)?;
     out.extend_from_slice(text_between(last, tag.rest))?;
     Ok(out)
 }
@@ -182,14 +188,15 @@ fn rewritten(
 /// Returns the start tag with this index with changes of its attributes, if it is read so again.
 pub(crate) fn changed_tag(
     alloc: Global,
+    language: Language,
     index: usize,
     tag: &Token<'_>,
     changes: &[Change<'_>],
 ) -> Result<Vec<u8>, Refusal>
-    ensures { IfOk result (λ text. IsChanged (token_of tag.now) changes.now text.items) }
+    ensures { IfOk result (λ text. IsChanged language (token_of tag.now) changes.now text.items) }
 {
-    let text = rewritten(alloc, tag, changes)?;
-    if is_changed_tag(alloc, tag, changes, text.as_slice())? {
+    let text = rewritten(alloc, language, tag, changes)?;
+    if is_changed_tag(alloc, language, tag, changes, text.as_slice())? {
         Ok(text)
     } else {
         Err(Refusal::Differs(index))

@@ -6,6 +6,7 @@ ghost use Rattle.html_edits.specs.Shapes.{is_sheet_tag as is_sheet_tag_of, shape
 ghost use Rattle.html_edits.specs.Shapes.{is_left_out as is_left_out_of, texts_after as texts_after_of};
 
 use crate::attributes::{is_link_tag, is_style_tag};
+use crate::edits::Language;
 use css_html::tokenizer::Token;
 use css_html_tree::names::{Name, Space};
 use css_html_tree::page::{NodeKind, Row};
@@ -38,21 +39,25 @@ pub struct Shape {
 }
 
 /// Whether a tag is that of a sheet.
-fn is_sheet_tag(tag: &Token<'_>) -> bool
-    ensures { result ≡ is_sheet_tag_of (token_of tag.now) }
+fn is_sheet_tag(language: Language, tag: &Token<'_>) -> bool
+    ensures { result ≡ is_sheet_tag_of language (token_of tag.now) }
 {
-    is_style_tag(tag) || is_link_tag(tag)
+    is_style_tag(language, tag) || is_link_tag(language, tag)
 }
 
 /// Returns the index of each tag among those that are not of sheets.
-pub(crate) fn ranks(alloc: Global, tags: &[Token<'_>]) -> Result<Vec<Option<usize>>, AllocError>
-    ensures { IfOk result (λ found. found.items ≡ ranks_from 0 (map token_of tags.now)) }
+pub(crate) fn ranks(
+    alloc: Global,
+    language: Language,
+    tags: &[Token<'_>],
+) -> Result<Vec<Option<usize>>, AllocError>
+    ensures { IfOk result (λ found. found.items ≡ ranks_from language 0 (map token_of tags.now)) }
 {
     let mut found = Vec::new(alloc);
     let mut next: usize = 0;
     let mut rest = tags;
     'tags: while let [tag, after @ ..] = rest {
-        if is_sheet_tag(tag) {
+        if is_sheet_tag(language, tag) {
             found.push(None)?;
         } else {
             found.push(Some(next))?;

@@ -5,7 +5,7 @@ use Rattle.html_edits.proofs.attributes.first_named.Given as goal
 
 abbrev pub invariant-attributes : goal.invariant-attributes
 invariant-attributes l =
-    first_named l.name (map attribute_of l.rest) ≡ first_named l.name (map attribute_of l.attributes)
+    first_named l.language l.name (map attribute_of l.rest) ≡ first_named l.language l.name (map attribute_of l.attributes)
 
 abbrev pub decreases-attributes : goal.decreases-attributes
 decreases-attributes l = length l.rest

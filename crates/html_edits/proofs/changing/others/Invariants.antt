@@ -5,8 +5,8 @@ use Rattle.html_edits.proofs.changing.others.Given as goal
 
 abbrev pub invariant-attributes : goal.invariant-attributes
 invariant-attributes l =
-    map attribute_of l.found.items ++ others l.changes (map attribute_of l.rest)
-    ≡ others l.changes (map attribute_of l.attributes)
+    map attribute_of l.found.items ++ others l.language l.changes (map attribute_of l.rest)
+    ≡ others l.language l.changes (map attribute_of l.attributes)
 
 abbrev pub decreases-attributes : goal.decreases-attributes
 decreases-attributes l = length l.rest

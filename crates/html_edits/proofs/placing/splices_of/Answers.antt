@@ -9,7 +9,7 @@ use Rattle.html_edits.proofs.placing.splices_of.Goals as goal
 
 pub loop-edit-init : goal.loop-edit-init
 loop-edit-init c =
-    subst (λ (xs : List Splice). AreSplices c.args.page.now c.args.tags.now [] xs)
+    subst (λ (xs : List Splice). AreSplices c.args.language c.args.page.now c.args.tags.now [] xs)
     (sym c.new-splices.ensures.items) no_splices
 
 pub loop-edit-preserved : goal.loop-edit-preserved

@@ -2,7 +2,7 @@ use Rattle.std.proofs.Common.{◌≡◌, [], length, arith}
 use Rattle.std.proofs.lemmas.Grind.{common_steps}
 use Rattle.std.proofs.lemmas.List.{nil_from_length}
 use Rattle.html_edits.proofs.StyleTexts.{no_end}
-use Rattle.html_edits.proofs.placing.is_style_text.Goals as goal
+use Rattle.html_edits.proofs.style_texts.is_style_text.Goals as goal
 
 pub returns : goal.returns
 returns c = λ h.

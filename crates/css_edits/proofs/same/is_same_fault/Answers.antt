@@ -1,0 +1,7 @@
+use Rattle.std.proofs.Common.{rules, sym, ◌∙◌}
+use denote.Enum.Bare.{same_true}
+use Rattle.css_syntax.specs.contracts.quality.Fault.{the_type}
+use Rattle.css_edits.proofs.same.is_same_fault.Goals as goal
+
+pub returns : goal.returns
+returns c = λ h. same_true the_type (search rules) _ _ (sym c.eq.ensures ∙ h)

@@ -1,0 +1,2 @@
+-- What contracts of private functions and proofs name, and no contract of a public call.
+pub mod Views

@@ -1,0 +1,6 @@
+pub mod Characters
+pub mod Doctypes
+pub mod Tokens
+pub mod References
+pub mod Tags
+pub mod Documents

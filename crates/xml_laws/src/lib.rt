@@ -1,0 +1,4 @@
+//! Laws of the tokens of XML documents.
+#![tactic(auto)]
+
+pub mod laws;
