@@ -62,6 +62,56 @@ repeats_more fields i (suc more) is =
     ∙ ap (λ b. b || has_key (keys_in fields (i + more)) (key_in fields (i + more)))
     (repeats_more fields i more is)
 
+-- ---- keys that are compared one after another
+
+module _ (fields : List (List ℕ)) (key : List ℕ) where
+  has_next : (i : ℕ) → has_key (keys_in fields (i + 1)) key
+      ≡ has_key (keys_in fields i) key || (bytes_eq (key_in fields i) key || false)
+  has_next i = ap (λ ks. has_key ks key) (keys_next fields i)
+      ∙ list_any-append (λ k. bytes_eq k key) (keys_in fields i) (key_in fields i ∷ [])
+
+  has_later : (i more : ℕ) → has_key (keys_in fields i) key ≡ true
+      → has_key (keys_in fields (i + more)) key ≡ true
+  has_later i zero is =
+      let same : i + 0 ≡ i = omega arith in
+      ap (λ n. has_key (keys_in fields n) key) same ∙ is
+  has_later i (suc more) is =
+      let next : i + suc more ≡ i + more + 1 = omega arith in
+      ap (λ n. has_key (keys_in fields n) key) next ∙ has_next (i + more)
+      ∙ ap (λ b. b || (bytes_eq (key_in fields (i + more)) key || false)) (has_later i more is)
+
+  -- one of the first attributes has the key
+  pub has_one : (i count : ℕ) → i < count → bytes_eq (key_in fields i) key ≡ true
+      → has_key (keys_in fields count) key ≡ true
+  has_one i count less is =
+      let here : has_key (keys_in fields (i + 1)) key ≡ true = has_next i
+      ∙ ap (λ b. has_key (keys_in fields i) key || (b || false)) is
+      ∙ or-true (has_key (keys_in fields i) key) in
+      let sum : i + 1 + (count - (i + 1)) ≡ count = omega (arith, less) in
+      ap (λ n. has_key (keys_in fields n) key) (sym sum) ∙ has_later (i + 1) (count - (i + 1)) here
+
+  -- one attribute more has not
+  pub has_none : (i : ℕ) → has_key (keys_in fields i) key ≡ false
+      → bytes_eq (key_in fields i) key ≡ false → has_key (keys_in fields (i + 1)) key ≡ false
+  has_none i none is = has_next i ∙ ap (λ b. b || (bytes_eq (key_in fields i) key || false)) none
+      ∙ ap (λ b. b || false) is
+
+module _ (fields : List (List ℕ)) (i : ℕ) where
+  -- an attribute has the key of an earlier one
+  pub repeats_one : (count : ℕ) → i < count → has_key (keys_in fields i) (key_in fields i) ≡ true
+      → repeats_key fields count ≡ true
+  repeats_one count less is =
+      let here : repeats_key fields (i + 1) ≡ true = repeats_next fields i
+      ∙ ap (λ b. repeats_key fields i || b) is ∙ or-true (repeats_key fields i) in
+      let sum : i + 1 + (count - (i + 1)) ≡ count = omega (arith, less) in
+      ap (repeats_key fields) (sym sum) ∙ repeats_more fields (i + 1) (count - (i + 1)) here
+
+  -- one attribute more has not
+  pub repeats_none : repeats_key fields i ≡ false
+      → has_key (keys_in fields i) (key_in fields i) ≡ false → repeats_key fields (i + 1) ≡ false
+  repeats_none none is = repeats_next fields i
+      ∙ ap (λ b. b || has_key (keys_in fields i) (key_in fields i)) none ∙ is
+
 module _ {fields : List (List ℕ)} {i : ℕ} {keys : BTreeSet (Bor (List ℕ))}
     (are : KeysAre fields i keys) (key : Bor (List ℕ)) (same : key.now ≡ key_in fields i) where
   tested : (added : Bool) → added ≡ not (has_text keys key.now)
@@ -72,12 +122,7 @@ module _ {fields : List (List ℕ)} {i : ℕ} {keys : BTreeSet (Bor (List ℕ))}
   pub had : (added : Bool) → added ≡ not (has_text keys key.now) → added ≡ false → (count : ℕ)
       → i < count → repeats_key fields count ≡ true
   had added was old count less =
-      let there : has_key (keys_in fields i) (key_in fields i) ≡ true =
-      not-false _ (sym (tested added was) ∙ old) in
-      let here : repeats_key fields (i + 1) ≡ true = repeats_next fields i
-      ∙ ap (λ b. repeats_key fields i || b) there ∙ or-true (repeats_key fields i) in
-      let sum : i + 1 + (count - (i + 1)) ≡ count = omega (arith, less) in
-      ap (repeats_key fields) (sym sum) ∙ repeats_more fields (i + 1) (count - (i + 1)) here
+      repeats_one fields i count less (not-false _ (sym (tested added was) ∙ old))
 
   has_more : (more : BTreeSet (Bor (List ℕ))) → Updates by_text keys more key true → (q : List ℕ)
       → has_text more q ≡ has_key (keys_in fields (i + 1)) q
@@ -87,17 +132,14 @@ module _ {fields : List (List ℕ)} {i : ℕ} {keys : BTreeSet (Bor (List ℕ))}
       updates.0 (record { ref_ptr = (0, 0); now = q })
       ∙ (λ k. cond (found k) true (are.has q k))
       ∙ one_more (bytes_eq (key_in fields i) q) (has_key (keys_in fields i) q)
-      ∙ sym (list_any-append (λ k. bytes_eq k q) (keys_in fields i) (key_in fields i ∷ []))
-      ∙ ap (λ ks. has_key ks q) (sym (keys_next fields i))
+      ∙ sym (has_next fields q i)
 
   -- the key was not in the set
   pub keys_more : (added : Bool) → added ≡ not (has_text keys key.now) → added ≡ true
       → (more : BTreeSet (Bor (List ℕ))) → Updates by_text keys more key true
       → KeysAre fields (i + 1) more
   keys_more added was new more updates = record {
-    new =
-        repeats_next fields i ∙ ap (λ b. b || has_key (keys_in fields i) (key_in fields i)) are.new
-        ∙ not-true _ (sym (tested added was) ∙ new);
+    new = repeats_none fields i are.new (not-true _ (sym (tested added was) ∙ new));
     has = has_more more updates;
   }
 

@@ -8,6 +8,7 @@ ghost use Rattle.std.specs.Str.{IsCharBoundary, IsUtf8};
 ghost use Rattle.call_answers.specs.Elements.{Strings, may_end, strings_in, IsPath, limit_after};
 ghost use Rattle.call_answers.specs.Elements.{parent_after, element_row, repeats_key, strings_of};
 ghost use Rattle.call_answers.specs.Elements.{fault_in, with_element, tree_from};
+ghost use Rattle.call_answers.specs.Elements.{keys_in, has_key as has_key_of};
 ghost use Rattle.call_answers.specs.Elements.{all_but, last_names, prefixes_with as prefixes_with_of};
 ghost use Rattle.call_answers.specs.Elements.{attributes_with as attributes_with_of};
 ghost use Rattle.call_answers.specs.internal.Attributes.{placed_attribute_of};
@@ -164,12 +165,44 @@ fn cut_strings<'t>(
     Ok((strings, start == buffer.len()))
 }
 
+/// The most attributes whose keys are compared one after another.
+const COMPARED: usize = 8;
+
+/// Whether one of the first attributes has this key.
+fn has_key(fields: &[&str], count: usize, key: &str) -> bool
+    requires { 2 * count ≤ length fields.now }
+    ensures { result ≡ has_key_of (keys_in (map (λ field. field.now) fields.now) count) key.now }
+{
+    for i in 0..count {
+        if fields[2 * i] == key {
+            return true;
+        }
+    }
+    false
+}
+
+/// Whether one of a few first attributes has the key of an earlier one.
+fn repeats_among_few(fields: &[&str], count: usize) -> bool
+    requires { 2 * count ≤ length fields.now }
+    ensures { result ≡ repeats_key (map (λ field. field.now) fields.now) count }
+{
+    for i in 0..count {
+        if has_key(fields, i, fields[2 * i]) {
+            return true;
+        }
+    }
+    false
+}
+
 /// Whether one of the first attributes has the key of an earlier one.
 fn repeats_key(alloc: Global, fields: &[&str], count: usize) -> Result<bool, AllocError>
     requires { 2 * count ≤ length fields.now }
     ensures { IfOk result
         (λ repeats. repeats ≡ repeats_key (map (λ field. field.now) fields.now) count) }
 {
+    if count <= COMPARED {
+        return Ok(repeats_among_few(fields, count));
+    }
     let mut keys = BTreeSet::new(alloc);
     for i in 0..count {
         if !keys.insert(fields[2 * i])? {

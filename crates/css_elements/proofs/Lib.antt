@@ -1,4 +1,5 @@
 mod Growing
+mod Ranges
 pub mod Languages
 pub mod ErrorWrites
 pub mod Walking

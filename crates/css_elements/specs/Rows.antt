@@ -1,5 +1,6 @@
 -- The elements of a tree, and their relations.
-use Rattle.std.specs.Prelude.{◌≡◌, ◌≤◌, ◌++◌, ◌-◌, ℕ, suc, false, length, slice_index_or, slice_set, List, [], ◌∷◌, map, Option, None, Some, nat_eq, if◌then◌else◌}
+use Rattle.std.specs.Prelude.{◌≡◌, ◌<◌, ◌≤◌, ◌++◌, ◌+◌, ◌-◌, ℕ, suc, false, length, slice_index_or, slice_set, List, [], ◌∷◌, map, Option, None, Some, nat_eq, if◌then◌else◌}
+use Rattle.std.specs.List.{slice_range}
 use Rattle.std.specs.Option.{option_eq}
 use Rattle.std.specs.Borrow.{Bor}
 use Rattle.css_elements.specs.declared.tree.States.{States}
@@ -14,15 +15,19 @@ pub record Row : Type 0 where
   pub previous : Option ℕ
   pub states : States
 
+-- an attribute as the code has it
+abbrev pub Attribute : Type 0
+Attribute = Bor (List ℕ) × Bor (List ℕ)
+
 -- the name and the value of an attribute
-abbrev pub attribute_of : Bor (List ℕ) × Bor (List ℕ) → List ℕ × List ℕ
+abbrev pub attribute_of : Attribute → List ℕ × List ℕ
 attribute_of a = (a.0.now, a.1.now)
 
--- what contracts see of an entry
-abbrev pub row_of : Entry → Row
-row_of e = record {
+-- what contracts see of an entry, where these are the attributes of all elements
+abbrev pub row_of : List Attribute → Entry → Row
+row_of all e = record {
   name = e.name.now;
-  attributes = map attribute_of e.attributes.items;
+  attributes = map attribute_of (slice_range all e.first e.end);
   parent = e.parent;
   previous = e.previous;
   states = e.states;
@@ -94,10 +99,21 @@ abbrev pub IsMissing : Option ℕ → ℕ → Type 0
 IsMissing None count = ⊥
 IsMissing (Some index) count = count ≤ index
 
+-- the last index of entries that names the parent, or none
+abbrev pub last_entry : List Entry → Option ℕ → Option ℕ
+last_entry entries parent = last_naming (map (λ e. e.parent) entries) parent
+
 -- Each entry has the index of its last child, and `last_root` is that of the last element without a
 -- parent. No index past the entries has a child.
 pub record KnowsLast (entries : List Entry) (last_root : Option ℕ) : Type 0 where
-  pub root : last_root ≡ last_child (map row_of entries) None
+  pub root : last_root ≡ last_entry entries None
   pub each : (i : ℕ)
-      → slice_index_or (map (λ e. e.last_child) entries) i None
-      ≡ last_child (map row_of entries) (Some i)
+      → slice_index_or (map (λ e. e.last_child) entries) i None ≡ last_entry entries (Some i)
+
+-- The attributes of each element are a range of those of all, of which there are so many, and those of the
+-- last element are the last.
+pub record AreRanges (entries : List Entry) (count : ℕ) : Type 0 where
+  pub within : (i : ℕ) (d : Entry) → i < length entries
+      → ((slice_index_or entries i d).first ≤ (slice_index_or entries i d).end)
+      × ((slice_index_or entries i d).end ≤ count)
+  pub last : (i : ℕ) (d : Entry) → i + 1 ≡ length entries → (slice_index_or entries i d).end ≡ count

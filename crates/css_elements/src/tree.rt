@@ -93,8 +93,10 @@ impl From<TreeError> for io::Error {
 pub(crate) struct Entry<'t> {
     /// The element's name.
     pub(crate) name: &'t str,
-    /// The name and the value of each attribute.
-    pub(crate) attributes: Vec<(&'t str, &'t str)>,
+    /// Where its attributes begin among those of all elements.
+    first: usize,
+    /// Where they end.
+    end: usize,
     /// The index of the parent, if there is one.
     pub(crate) parent: Option<usize>,
     /// The index of the previous sibling, if there is one.
@@ -106,8 +108,8 @@ pub(crate) struct Entry<'t> {
 }
 
 /// A tree: elements in the order in which they were added. Names, attributes and their values are
-/// slices of the document's text and are not copied; an element without attributes allocates
-/// nothing besides its entry in the list.
+/// slices of the document's text and are not copied; elements are in one list, and the attributes of all
+/// in another.
 ///
 /// <!-- from crates/example_first/src/main.rt -->
 /// ```rust
@@ -120,19 +122,22 @@ pub(crate) struct Entry<'t> {
 pub struct Tree<'t> {
     /// An entry for each element.
     pub(crate) entries: Vec<Entry<'t>>,
+    /// The name and the value of each attribute of each element, in order.
+    attributes: Vec<(&'t str, &'t str)>,
     /// The index of the last element without a parent, if there is one.
     last_root: Option<usize>,
 }
 
 impl<'t> Model for Tree<'t> {
-    ghost use Rattle.std.specs.Prelude.{List, map};
-    ghost use Rattle.css_elements.specs.Rows.{Row, row_of, KnowsLast};
+    ghost use Rattle.std.specs.Prelude.{List, length, map};
+    ghost use Rattle.css_elements.specs.Rows.{Row, row_of, AreRanges, KnowsLast};
 
     ghost Value = { List Row };
 
-    ghost view = { λ t. map row_of t.entries.items };
+    ghost view = { λ t. map (row_of t.attributes.items) t.entries.items };
 
-    ghost invariant = { λ t. KnowsLast t.entries.items t.last_root };
+    ghost invariant = { λ t. KnowsLast t.entries.items t.last_root
+        × AreRanges t.entries.items (length t.attributes.items) };
 }
 
 impl<'t> Tree<'t> {
@@ -146,6 +151,7 @@ impl<'t> Tree<'t> {
     {
         Tree {
             entries: Vec::new(alloc),
+            attributes: Vec::new(alloc),
             last_root: None,
         }
     }
@@ -183,10 +189,11 @@ impl<'t> Tree<'t> {
     {
         let index = self.entries.len();
         let previous = self.last_child(parent)?;
-        let alloc = *self.entries.allocator();
+        let end = self.attributes.len();
         self.entries.push(Entry {
             name,
-            attributes: Vec::new(alloc),
+            first: end,
+            end,
             parent,
             previous,
             states: States::default(),
@@ -209,7 +216,8 @@ impl<'t> Tree<'t> {
         let Some(last) = self.entries.len().checked_sub(1) else {
             return Err(TreeError::NoElement);
         };
-        self.entries[last].attributes.push((name, value))?;
+        self.attributes.push((name, value))?;
+        self.entries[last].end = self.attributes.len();
         Ok(())
     }
 
@@ -290,7 +298,8 @@ impl<'t> Tree<'t> {
         requires { index < length self.now }
         ensures { map attribute_of result.now ≡ attributes_at self.now index }
     {
-        self.entries[index].attributes.as_slice()
+        let entry = &self.entries[index];
+        &self.attributes[entry.first..entry.end]
     }
 
     /// Returns the value of the first attribute with the name, if there is one.
@@ -298,7 +307,7 @@ impl<'t> Tree<'t> {
         requires { index < length self.now }
         ensures { option_map (λ value. value.now) result ≡ attribute_at self.now index name.now }
     {
-        value_in(&self.entries[index].attributes, name)
+        value_in(self.attributes(index), name)
     }
 
     /// Returns the states.

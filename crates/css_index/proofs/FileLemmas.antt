@@ -249,40 +249,48 @@ number_lowered n (x ∷ a) (y ∷ b) e =
     ap (λ k. number_from ((n * 37 % 2 ^ 64 + k) % 2 ^ 64) a) first
     ∙ number_lowered ((n * 37 % 2 ^ 64 + to_ascii_lowercase y) % 2 ^ 64) a b rest
 
--- names that are the same but for case have the same number
-same_name_number : (n : ℕ) (a b : List ℕ) → IsTrue (str_eq_ignore_ascii_case a b)
-    → number_from n a ≡ number_from n b
-same_name_number n a b h =
-    number_lowered n a b
-    ((bytes_eq-Decides (map to_ascii_lowercase a) (map to_ascii_lowercase b)).0 h)
+-- names that are the same but for case
+lowered : (a b : List ℕ) → IsTrue (str_eq_ignore_ascii_case a b)
+    → map to_ascii_lowercase a ≡ map to_ascii_lowercase b
+lowered a b h = (bytes_eq-Decides (map to_ascii_lowercase a) (map to_ascii_lowercase b)).0 h
+
+-- what is the same of names without regard to case is the same of keys that are the same
+pub same_by : {X : Type 0} (f : Key → X)
+    → ((a b : List ℕ) → map to_ascii_lowercase a ≡ map to_ascii_lowercase b
+    → f (by_name a) ≡ f (by_name b))
+    → ((a b : List ℕ) → map to_ascii_lowercase a ≡ map to_ascii_lowercase b
+    → f (by_attribute a) ≡ f (by_attribute b))
+    → (own key : Key) → is_same own key ≡ true → f own ≡ f key
+same_by f names attributes (by_id a) (by_id b) h = ap (λ t. f (by_id t)) ((bytes_eq-Decides a b).0 h)
+same_by f names attributes (by_class a) (by_class b) h =
+    ap (λ t. f (by_class t)) ((bytes_eq-Decides a b).0 h)
+same_by f names attributes (by_name a) (by_name b) h = names a b (lowered a b h)
+same_by f names attributes (by_attribute a) (by_attribute b) h = attributes a b (lowered a b h)
+same_by f names attributes by_nothing by_nothing h = refl
+same_by f names attributes (by_id a) (by_class b) h = absurd (cc)
+same_by f names attributes (by_id a) (by_name b) h = absurd (cc)
+same_by f names attributes (by_id a) (by_attribute b) h = absurd (cc)
+same_by f names attributes (by_id a) by_nothing h = absurd (cc)
+same_by f names attributes (by_class a) (by_id b) h = absurd (cc)
+same_by f names attributes (by_class a) (by_name b) h = absurd (cc)
+same_by f names attributes (by_class a) (by_attribute b) h = absurd (cc)
+same_by f names attributes (by_class a) by_nothing h = absurd (cc)
+same_by f names attributes (by_name a) (by_id b) h = absurd (cc)
+same_by f names attributes (by_name a) (by_class b) h = absurd (cc)
+same_by f names attributes (by_name a) (by_attribute b) h = absurd (cc)
+same_by f names attributes (by_name a) by_nothing h = absurd (cc)
+same_by f names attributes (by_attribute a) (by_id b) h = absurd (cc)
+same_by f names attributes (by_attribute a) (by_class b) h = absurd (cc)
+same_by f names attributes (by_attribute a) (by_name b) h = absurd (cc)
+same_by f names attributes (by_attribute a) by_nothing h = absurd (cc)
+same_by f names attributes by_nothing (by_id b) h = absurd (cc)
+same_by f names attributes by_nothing (by_class b) h = absurd (cc)
+same_by f names attributes by_nothing (by_name b) h = absurd (cc)
+same_by f names attributes by_nothing (by_attribute b) h = absurd (cc)
 
 -- keys that are the same have the same number
 same_number : (own key : Key) → is_same own key ≡ true → number_of own ≡ number_of key
-same_number (by_id a) (by_id b) h = ap (number_from 1) ((bytes_eq-Decides a b).0 h)
-same_number (by_class a) (by_class b) h = ap (number_from 2) ((bytes_eq-Decides a b).0 h)
-same_number (by_name a) (by_name b) h = same_name_number 3 a b h
-same_number (by_attribute a) (by_attribute b) h = same_name_number 4 a b h
-same_number by_nothing by_nothing h = refl
-same_number (by_id a) (by_class b) h = absurd (cc)
-same_number (by_id a) (by_name b) h = absurd (cc)
-same_number (by_id a) (by_attribute b) h = absurd (cc)
-same_number (by_id a) by_nothing h = absurd (cc)
-same_number (by_class a) (by_id b) h = absurd (cc)
-same_number (by_class a) (by_name b) h = absurd (cc)
-same_number (by_class a) (by_attribute b) h = absurd (cc)
-same_number (by_class a) by_nothing h = absurd (cc)
-same_number (by_name a) (by_id b) h = absurd (cc)
-same_number (by_name a) (by_class b) h = absurd (cc)
-same_number (by_name a) (by_attribute b) h = absurd (cc)
-same_number (by_name a) by_nothing h = absurd (cc)
-same_number (by_attribute a) (by_id b) h = absurd (cc)
-same_number (by_attribute a) (by_class b) h = absurd (cc)
-same_number (by_attribute a) (by_name b) h = absurd (cc)
-same_number (by_attribute a) by_nothing h = absurd (cc)
-same_number by_nothing (by_id b) h = absurd (cc)
-same_number by_nothing (by_class b) h = absurd (cc)
-same_number by_nothing (by_name b) h = absurd (cc)
-same_number by_nothing (by_attribute b) h = absurd (cc)
+same_number = same_by number_of (number_lowered 3) (number_lowered 4)
 
 same_place : (count : ℕ) (own key : Key) → is_same own key ≡ true
     → (place_of count own == place_of count key) ≡ true

@@ -6,6 +6,7 @@ mod KeyedLemmas
 mod WordLemmas
 mod DistinctLemmas
 mod FileLemmas
+mod SieveLemmas
 mod MatchLemmas
 mod TestLemmas
 pub mod WalkLemmas

@@ -4,7 +4,7 @@ use Rattle.std.proofs.Common.{◌≡◌, ℕ, suc, ◌<◌, ◌⊎◌, ◌↔◌
 use Rattle.std.specs.Prelude.{bytes_eq}
 use Rattle.std.specs.List.{Contains, list_any, prefix_len}
 use Rattle.std.proofs.lemmas.Bool.{false≢true}
-use Rattle.std.proofs.lemmas.List.Elements.{Contains-append_left, Contains-push, Contains-push_cases}
+use Rattle.std.proofs.lemmas.List.Elements.{Contains-append_left, Contains-append_right, Contains-append_cases, Contains-push, Contains-push_cases}
 use Rattle.std.proofs.lemmas.Slice.Eq.{bytes_eq-Decides}
 use Rattle.css_text.specs.Bytes.{past}
 use Rattle.css_text.specs.Characters.{is_space}
@@ -283,6 +283,22 @@ word_more value words word rest after known split text = (there, back)
       ]
       | inr l ↦ (known text).1 (inr ((split text).1 (inr l)))
     ]
+
+-- the first words and those of the rest
+pub words_both : (value rest : List ℕ) (first words : List (List ℕ))
+    → ((text : List ℕ) → IsTrue (is_satisfied has_word false text value)
+    ↔ (Contains first text ⊎ IsTrue (is_satisfied has_word false text rest)))
+    → AreWords rest words → AreWords value (first ++ words)
+words_both value rest first words split are text = (
+  λ h. elim ((split text).0 h) [
+    | inl c ↦ Contains-append_left first words text c
+    | inr k ↦ Contains-append_right first words text ((are text).0 k)
+  ],
+  λ c. elim (Contains-append_cases first words text c) [
+    | inl f ↦ (split text).1 (inl f)
+    | inr w ↦ (split text).1 (inr ((are text).1 w))
+  ],
+)
 
 -- all words were split off
 pub word_all : (value : List ℕ) (words : List (List ℕ)) (rest : List ℕ)

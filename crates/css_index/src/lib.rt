@@ -14,9 +14,10 @@
 //!
 //! The items of the index are any type with [`HasSelector`], as a rule with declarations, or
 //! references to selectors. A search costs a look-up for the name, the id, each class and each
-//! attribute of the element; a class that is repeated is looked up once. A candidate that requires
-//! nothing but its keys, as `.a` or `:is(.a, .b)`, is not tested, and the others are; of one that begins
-//! with its key, as `.a:hover`, only the rest is tested. A selector with many keys is filed once for each.
+//! attribute of the element, and less for most that no selector has as a key; of the classes after
+//! the first eight one that is repeated is looked up once. A candidate that requires nothing but its
+//! keys, as `.a` or `:is(.a, .b)`, is not tested, and the others are; of one that begins with its key,
+//! as `.a:hover`, only the rest is tested. A selector with many keys is filed once for each.
 //!
 //! [`SelectorWalk`] is an index for a walk along a page: it leaves out, too, candidates that need an
 //! ancestor or a parent with a key which no open element has. `TreeWalk` of `css_tree` walks along a
@@ -32,6 +33,7 @@ mod keyed;
 mod need;
 mod selector_index;
 mod selector_walk;
+mod sieve;
 mod table;
 mod words;
 

@@ -137,6 +137,9 @@ impl<'s, 'a> SelectorIndex<'s, 'a> {
         ensures err { OnErr result (indices.new.items ≡ []) }
     {
         indices.clear();
+        if self.rules.is_empty() {
+            return Ok(());
+        }
         if let Err(error) = self.table.push_keyed(element, kept, indices) {
             indices.clear();
             return Err(error);

@@ -167,6 +167,9 @@ impl<'s, 'a> SelectorWalk<'s, 'a> {
         ensures err { OnErr result (self.new ≡ self.old) }
     {
         self.found.clear();
+        if self.needed.len() == 0 {
+            return self.path.enter(&[]);
+        }
         self.needed
             .push_keyed(element, &Everything, &mut self.found)?;
         self.path.enter(&self.found)?;

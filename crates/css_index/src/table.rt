@@ -5,7 +5,7 @@ ghost use Rattle.css_selectors.specs.Keys.{Key as KeyOf};
 ghost use Rattle.css_selectors.specs.Keys.Key.{by_class, by_attribute};
 ghost use Rattle.css_index.specs.internal.Added.{AreAdded};
 ghost use Rattle.css_index.specs.internal.Filed.{found_by, found_by_any};
-ghost use Rattle.css_index.specs.internal.Filed.{AreWords, AreClasses, AreReported, id_keys};
+ghost use Rattle.css_index.specs.internal.Filed.{AreWords, AreFirstWords, AreClasses, AreReported, id_keys};
 ghost use Rattle.css_selectors.specs.KeyViews.{key_of};
 ghost use Rattle.css_index.specs.KeyNumbers.{is_same as is_same_key};
 ghost use Rattle.css_index.specs.internal.Filed.{place_by, entry_of, is_found_by};
@@ -19,7 +19,8 @@ use crate::Keyed;
 use crate::filed_key::FiledKey;
 use crate::keeping::{Everything, Keeping};
 use crate::key_numbers::number_of;
-use crate::words::{distinct_words, only_word};
+use crate::sieve::{Sieve, sieve_of};
+use crate::words::{distinct_words, split_word};
 use css_selectors::{Key, Selector, push_keys};
 use std::alloc::{AllocError, Global};
 use std::marker::Model;
@@ -62,13 +63,16 @@ pub(crate) fn is_found(entry: &FiledKey<'_>, key: &Key<'_>, number: u64) -> bool
     is_same(&entry.key, key)
 }
 
-/// Whether the keys are classes or ids with the same text. Others are not compared.
+/// Whether the keys are of one kind and have the same text.
 fn is_equal(one: &Key<'_>, other: &Key<'_>) -> bool
     ensures { result ≡ true → key_of one.now ≡ key_of other.now }
 {
     match (one, other) {
         (Key::Id(a), Key::Id(b)) => a == b,
         (Key::Class(a), Key::Class(b)) => a == b,
+        (Key::Name(a), Key::Name(b)) => a == b,
+        (Key::Attribute(a), Key::Attribute(b)) => a == b,
+        (Key::Any, Key::Any) => true,
         _ => false,
     }
 }
@@ -188,6 +192,9 @@ fn push_kept<K: Keeping>(index: usize, kept: &K, indices: &mut Vec<usize>) -> Re
     Ok(())
 }
 
+/// So many words of a class are looked up as they come, and of the others each once.
+const FIRST_WORDS: usize = 8;
+
 /// Keys, each with the index of a rule or with a number. They are filed, each at its place. Of entries
 /// there that follow each other and have one key the first is compared with what is searched.
 #[derive(Drop)]
@@ -196,18 +203,22 @@ pub(crate) struct Table<'s> {
     entries: Vec<FiledKey<'s>>,
     /// The entries at each place.
     buckets: Vec<Vec<FiledKey<'s>>>,
+    /// Which keys there can be.
+    sieve: Sieve,
 }
 
 impl<'s> Model for Table<'s> {
     ghost use Rattle.std.specs.Prelude.{ℕ, List, map};
     ghost use Rattle.css_selectors.specs.Keys.{Key};
     ghost use Rattle.css_index.specs.internal.Filed.{entry_of, AreFiled};
+    ghost use Rattle.css_index.specs.internal.Sieves.{AreIn};
 
     ghost Value = { List (Key × ℕ) };
 
     ghost view = { λ table. map entry_of table.entries.items };
 
-    ghost invariant = { λ table. AreFiled (map entry_of table.entries.items) table.buckets.items };
+    ghost invariant = { λ table. AreFiled (map entry_of table.entries.items) table.buckets.items
+        × AreIn table.sieve.places.items (map entry_of table.entries.items) };
 }
 
 impl<'s> Table<'s> {
@@ -220,6 +231,7 @@ impl<'s> Table<'s> {
         Ok(Table {
             entries: Vec::new(alloc),
             buckets,
+            sieve: Sieve::new(alloc)?,
         })
     }
 
@@ -234,6 +246,7 @@ impl<'s> Table<'s> {
             self.entries.pop();
             return Err(error.into());
         }
+        self.sieve.add(&entry.key);
         Ok(())
     }
 
@@ -288,7 +301,24 @@ impl<'s> Table<'s> {
     }
 
     /// Appends the indices of the rules with this key that are kept.
+    #[inline(always)]
     fn push_found<K: Keeping>(
+        &self,
+        key: &Key<'_>,
+        kept: &K,
+        indices: &mut Vec<usize>,
+    ) -> Result<(), AllocError>
+        ensures { OnOk result (AreAdded (K.Keeps kept.now) indices.old.items
+            (found_by self.now (key_of key.now)) indices.new.items) }
+    {
+        if !self.sieve.may_have(key) {
+            return Ok(());
+        }
+        self.push_filed(key, kept, indices)
+    }
+
+    /// Appends the indices of the rules with this key that are kept, by all entries at its place.
+    fn push_filed<K: Keeping>(
         &self,
         key: &Key<'_>,
         kept: &K,
@@ -330,6 +360,30 @@ impl<'s> Table<'s> {
         }
     }
 
+    /// Appends the indices of the rules with one of the first words of the value as a key that are kept.
+    /// Returns what is after these words, if more may follow.
+    fn push_first_words<'v, K: Keeping>(
+        &self,
+        value: &'v str,
+        kept: &K,
+        indices: &mut Vec<usize>,
+    ) -> Result<Option<&'v str>, AllocError>
+        ensures { IfOk result (λ rest. (words : List (List ℕ))
+            × AreFirstWords value.now words (option_map (λ text. text.now) rest)
+            × AreAdded (K.Keeps kept.now) indices.old.items
+            (found_by_any self.now (map by_class words)) indices.new.items) }
+    {
+        let mut rest = value;
+        'words: for _ in 0..FIRST_WORDS {
+            let Some((word, after)) = split_word(rest) else {
+                return Ok(None);
+            };
+            self.push_found(&Key::Class(word), kept, indices)?;
+            rest = after;
+        }
+        Ok(Some(rest))
+    }
+
     /// Appends the indices of the rules with a word of the value as a key that are kept.
     fn push_words<K: Keeping>(
         &self,
@@ -341,10 +395,10 @@ impl<'s> Table<'s> {
             × AreAdded (K.Keeps kept.now) indices.old.items
             (found_by_any self.now (map by_class words)) indices.new.items) }
     {
-        if let Some(word) = only_word(value) {
-            return self.push_found(&Key::Class(word), kept, indices);
-        }
-        let words = distinct_words(*indices.allocator(), value)?;
+        let Some(rest) = self.push_first_words(value, kept, indices)? else {
+            return Ok(());
+        };
+        let words = distinct_words(*indices.allocator(), rest)?;
         for word in &words {
             self.push_found(&Key::Class(*word), kept, indices)?;
         }
@@ -420,5 +474,10 @@ pub(crate) fn filed<'s>(
     let entries = entries_of(alloc, selectors)?;
     let mut buckets = empty_lists(alloc, entries.len().saturating_mul(2).max(1))?;
     file(entries.as_slice(), &mut buckets)?;
-    Ok(Table { entries, buckets })
+    let sieve = sieve_of(alloc, entries.as_slice())?;
+    Ok(Table {
+        entries,
+        buckets,
+        sieve,
+    })
 }

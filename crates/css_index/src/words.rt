@@ -1,5 +1,5 @@
 //! The words of a value.
-ghost use Rattle.std.specs.Prelude.{◌≡◌, ◌<◌, ◌≤◌, ◌↔◌, ◌⊎◌, ⊤, ℕ, not, ◌∷◌, [], length, map, false, List, IsTrue, IfOk, IfSome, MatchOption};
+ghost use Rattle.std.specs.Prelude.{◌≡◌, ◌<◌, ◌≤◌, ◌↔◌, ◌⊎◌, ⊤, ℕ, not, length, map, false, List, IsTrue, IfOk, MatchOption};
 ghost use Rattle.std.specs.Cmp.Lexicographic.{slice_cmp};
 ghost use Rattle.std.specs.List.{prefix_len};
 ghost use Rattle.std.specs.List.Sorted.{IsStrictlySortedBy};
@@ -43,17 +43,6 @@ pub(crate) fn split_word(value: &str) -> Option<(&str, &str)>
         return None;
     }
     Some((&text[..len], &text[len..]))
-}
-
-/// Returns the word of a value that has one word alone.
-pub(crate) fn only_word(value: &str) -> Option<&str>
-    ensures { IfSome result (λ word. AreWords value.now (word.now ∷ [])) }
-{
-    let (word, after) = split_word(value)?;
-    if split_word(after).is_some() {
-        return None;
-    }
-    Some(word)
 }
 
 /// Returns the words of a value, each once.

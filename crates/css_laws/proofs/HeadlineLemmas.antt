@@ -35,7 +35,7 @@ use Rattle.page_calls.specs.MarkedPages.{IsMarkedPage, list_as}
 use Rattle.page_calls.specs.Readings.{selector_as}
 use Rattle.page_calls.specs.declared.modern.document_kind.DocumentKind.{DocumentKind}
 use Rattle.page_calls.specs.declared.modern.document_kind.DocumentKind.TheVariants.{AsWritten, Html}
-use Rattle.simplecss_calls.specs.WinnerNumbers.{AreRules, AreSheets, IsWon, PassedSheets, is_held, selectors_read, winners_numbers}
+use Rattle.simplecss_calls.specs.WinnerNumbers.{AreRules, AreSheets, IsWon, PassedSheets, held_rules, is_held, selectors_read, winners_numbers}
 use Rattle.css_laws.specs.Headline.{Applies, AreTheWinners, SelectsAs}
 use Rattle.css_laws.proofs.ChainedLists.{lists-earlier, rules-ask}
 use Rattle.css_laws.proofs.CountLemmas.{counts_same}
@@ -288,6 +288,40 @@ styles-are holds sheets kind page own index indices no_hint marked within found 
 
 -- ---- what a call writes
 
+numbered-count : (n : NumberingText) (rules : List SheetRuleText) → length (numbered_rules n rules).0 ≡ length rules
+numbered-count n [] = refl
+numbered-count n (rule ∷ rules) = ap suc (numbered-count (numbered_rule n rule).1 rules)
+
+-- there are as many rules with numbers as were read
+pub numbered-long : (groups : List (List ℕ)) (sheets : List SheetText)
+    → length (held_rules sheets groups).0 ≡ length (cascade_rules (is_held groups) sheets)
+numbered-long groups sheets =
+    numbered-count (with_each_list no_lists (nested_lists (is_held groups) sheets))
+    (cascade_rules (is_held groups) sheets)
+
+pub won-are : (passed : PassedSheets) (sheets : List SheetText) (groups : List (List ℕ)) (rules : List SheetRuleText)
+    (lists : List ListText) → AreSheets passed sheets groups → rules ≡ (held_rules sheets groups).0
+    → lists ≡ (held_rules sheets groups).1.lists → (kind : DocumentKind) (before page : Page) (own : OwnText)
+    (index : ℕ) (numbers : List ℕ) → IsMarkedPage kind lists before page → index < length page.rows
+    → IsWon None own (selector_as kind) rules page index numbers
+    → (found : List WinnerText) × (numbers ≡ winners_numbers (length rules) found)
+    × AreTheWinners (is_held groups) sheets kind page index own found
+won-are passed sheets groups rules lists are of_rules of_lists kind before page own index numbers marked within won =
+    let holds = is_held groups in
+    let nested = nested_lists holds sheets in
+    let read = cascade_rules holds sheets in
+    let indices = won.0 in
+    let on = subst (λ (ls : List ListText). AreMarked (map (list_as kind) ls) page) of_lists marked.1 in
+    let found =
+    subst (λ (rs : List SheetRuleText). AreMatches page_document (spot page index)
+    (selectors_read (selector_as kind) rs) indices) of_rules won.1 in (
+      winners read indices own,
+      won.2
+          ∙ ap (λ (rs : List SheetRuleText). winners_numbers (length rules) (winners rs indices own)) of_rules
+          ∙ ap (winners_numbers (length rules)) (winners-numbered nested read indices own),
+      the-winners holds sheets kind page index own within on (no-hints passed sheets groups are) indices found,
+    )
+
 pub numbers-are : (passed : PassedSheets) (limit : ℕ) (rules : List SheetRuleText) (lists : List ListText)
     (kind : DocumentKind) (before page : Page) (own : OwnText) (index : ℕ) (numbers : List ℕ)
     → AreRules passed limit rules lists → IsMarkedPage kind lists before page → index < length page.rows
@@ -296,22 +330,5 @@ pub numbers-are : (passed : PassedSheets) (limit : ℕ) (rules : List SheetRuleT
     × (found : List WinnerText) × (numbers ≡ winners_numbers (length rules) found)
     × AreTheWinners (is_held groups) sheets kind page index own found
 numbers-are passed limit rules lists kind before page own index numbers are marked within won =
-    let sheets = are.0 in
-    let groups = are.1 in
-    let holds = is_held groups in
-    let nested = nested_lists holds sheets in
-    let read = cascade_rules holds sheets in
-    let indices = won.0 in
-    let on = subst (λ (ls : List ListText). AreMarked (map (list_as kind) ls) page) are.6 marked.1 in
-    let found =
-    subst (λ (rs : List SheetRuleText). AreMatches page_document (spot page index)
-    (selectors_read (selector_as kind) rs) indices) are.5 won.1 in (
-      sheets,
-      groups,
-      are.2,
-      winners read indices own,
-      won.2
-          ∙ ap (λ (rs : List SheetRuleText). winners_numbers (length rules) (winners rs indices own)) are.5
-          ∙ ap (winners_numbers (length rules)) (winners-numbered nested read indices own),
-      the-winners holds sheets kind page index own within on (no-hints passed sheets groups are.2) indices found,
-    )
+    let w = won-are passed are.0 are.1 rules lists are.2 are.5 are.6 kind before page own index numbers marked within won in
+    (are.0, are.1, are.2, w.0, w.1, w.2)

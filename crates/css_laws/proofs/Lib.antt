@@ -18,6 +18,7 @@ pub mod HtmlSelectors
 pub mod HeadlineLemmas
 pub mod ConditionLemmas
 pub mod DeviceLemmas
+pub mod QueryLemmas
 pub mod AnswerLemmas
 pub mod PieceLemmas
 pub mod LayerOrderLemmas

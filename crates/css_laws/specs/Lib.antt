@@ -4,3 +4,4 @@ pub mod Devices
 pub mod Headline
 pub mod OneTree
 pub mod Pages
+pub mod Queries

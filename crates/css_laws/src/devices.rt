@@ -18,7 +18,7 @@ ghost use Rattle.css_laws.specs.Conditions.{OfConditions};
 ghost use Rattle.css_laws.specs.Devices.{AreAsked, holds_on};
 ghost use Rattle.css_laws.specs.Headline.{AreTheWinners};
 
-/// The numbers that `simplecss_winners` writes of an element are those of the declarations that win on it on a device:
+/// The numbers that `simplecss_query_numbers` writes of an element are those of the declarations that win on it on a device:
 /// of each, every group rule around it holds there. The caller has asked `simplecss_media` and `simplecss_supports`
 /// of the group rules of the sheets, of each that is in no other that does not hold, and passes those of which the
 /// call wrote `true`. The other premises are those of [`winners_law`](crate::headline::winners_law).

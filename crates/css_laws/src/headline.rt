@@ -20,7 +20,7 @@ ghost use Rattle.page_calls.specs.declared.modern.document_kind.DocumentKind.{Do
 ghost use Rattle.simplecss_calls.specs.WinnerNumbers.{AreRules, AreSheets, IsWon, PassedSheets, is_held, selectors_read, winners_numbers};
 ghost use Rattle.css_laws.specs.Headline.{Applies, AreTheWinners};
 
-/// The numbers that `simplecss_winners` writes of an element are those of the declarations that win on it: each is
+/// The numbers that `simplecss_query_numbers` writes of an element are those of the declarations that win on it: each is
 /// one that applies, by a rule of the sheets that are passed whose selector matches the element, or by the element's
 /// own texts; no other that counts beats it; and for each property there is one if one counts, and none if none does.
 /// The premises are what the call ensures: the rules are those of the sheets, and the page is marked with their lists.

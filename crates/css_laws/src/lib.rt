@@ -10,6 +10,7 @@ mod numbered_lists;
 mod one_tree;
 mod pages;
 mod pieces;
+mod queries;
 mod rule_order;
 mod source_order;
 
@@ -21,5 +22,6 @@ pub use numbered_lists::numbered_lists_law;
 pub use one_tree::converted_law;
 pub use pages::page_law;
 pub use pieces::pieces_law;
+pub use queries::query_law;
 pub use rule_order::rule_order_law;
 pub use source_order::source_order_law;

@@ -12,5 +12,6 @@ mod NestedCosts
 mod NestedReads
 pub mod NestingLaws
 pub mod AlikeSelectors
+pub mod PlainLemmas
 mod NumberingLemmas
 mod NumberingLaws

@@ -9,6 +9,7 @@ pub mod MarkedLists
 pub mod Keys
 pub mod Meanings
 pub mod Numberings
+pub mod PageNeeds
 pub mod PlacementLists
 pub mod SpelledOut
 pub mod TestBounds

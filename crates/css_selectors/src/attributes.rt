@@ -3,7 +3,7 @@ ghost use Rattle.std.specs.Prelude.{◌≡◌, ◌≤◌, true, IsTrue, drop, le
 ghost use Rattle.std.specs.List.{list_any};
 ghost use Rattle.css_text.specs.Characters.{is_space as is_space_byte};
 ghost use Rattle.css_selector_text.specs.AttributeTests.{same_byte as is_same_byte, begins as begins_by};
-ghost use Rattle.css_selector_text.specs.AttributeTests.{begins_up_to, is_word_of, occurs_in, is_satisfied};
+ghost use Rattle.css_selector_text.specs.AttributeTests.{begins_up_to, ends_by, is_word_of, occurs_in, is_satisfied};
 ghost use Rattle.css_selector_text.specs.AttributeTests.{is_hyphen};
 ghost use Rattle.css_selectors.specs.internal.WordStarts.{after_space as after_space_of};
 ghost use Rattle.css_selector_text.specs.Views.{comparison_of};
@@ -26,17 +26,27 @@ fn has_subtag(ignores_case: bool, text: &[u8], value: &[u8]) -> bool
     begins(ignores_case, text, value) && matches!(&value[text.len()..], [] | [b'-', ..])
 }
 
-/// Whether the value begins with the text and then ends or has white space.
-fn begins_word(ignores_case: bool, text: &[u8], value: &[u8]) -> bool
-    ensures { result ≡ begins_up_to is_space_byte ignores_case text.now value.now }
+/// Whether a value ends, or has white space at its start.
+#[inline(always)]
+fn ends_word(rest: &[u8]) -> bool
+    ensures { result ≡ ends_by is_space_byte rest.now }
 {
-    if !begins(ignores_case, text, value) {
-        return false;
-    }
-    match &value[text.len()..] {
+    match rest {
         [] => true,
         [byte, ..] => is_space(*byte),
     }
+}
+
+/// Whether the value begins with the text and then ends or has white space. That is asked first, since
+/// most words of other lengths fail there.
+#[inline(always)]
+fn begins_word(ignores_case: bool, text: &[u8], value: &[u8]) -> bool
+    ensures { result ≡ begins_up_to is_space_byte ignores_case text.now value.now }
+{
+    if value.len() < text.len() {
+        return false;
+    }
+    ends_word(&value[text.len()..]) && begins(ignores_case, text, value)
 }
 
 /// Returns what is after the first white space of the value: nothing if there is none.
@@ -116,7 +126,7 @@ pub(crate) fn is_satisfied(
     match comparison {
         Comparison::Equals => { text.len() == value.len() && begins(ignores_case, text, value) }
         Comparison::HasWord => {
-            !text.is_empty() && !has_space(text) && is_word(ignores_case, text, value)
+            !text.is_empty() && is_word(ignores_case, text, value) && !has_space(text)
         }
         Comparison::HasSubtag => has_subtag(ignores_case, text, value),
         Comparison::Starts => !text.is_empty() && begins(ignores_case, text, value),

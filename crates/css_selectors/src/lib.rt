@@ -5,11 +5,10 @@
 //! related as the combinators say. An element is any type with the trait [`Element`]. It answers which
 //! namespace it is in, and which attributes in namespaces it has.
 //!
-//! `&` stands for a list of selectors by its number, of which the element is asked.
-//!
-//! `:has()` and a list after `An+B` are answered for all elements of a document at once. [`Numbering`]
-//! puts the number of their list in place of them, of which the element is asked as for `&`. A selector
-//! that is not numbered is matched as if no element satisfied them.
+//! `&` stands for a list of selectors by its number, and `:has()` and a list after `An+B` are answered for all
+//! elements of a document at once: [`Numbering`] puts the number of their list in place of them. One element does not
+//! answer these, and [`Matching::matches`] then returns `None`. An element of a page that is marked with the lists
+//! ([`MarkedList`]) says in which it is, and [`Matching::matches_counted`] asks it.
 //!
 //! Each element that a selector matches has one of the selector's keys ([`push_keys`]), by which an index
 //! finds the selectors that an element may match.
@@ -29,6 +28,7 @@ mod nesting_laws;
 mod numbering;
 mod numbering_laws;
 mod occurrences;
+mod page_needs;
 
 pub use after_key::{begins_with_key, matches_after_key};
 pub use ancestor_keys::{is_only_keys, push_ancestor_keys, push_parent_keys};
@@ -45,3 +45,4 @@ pub use marked_list::MarkedList;
 pub use matching::Matching;
 pub use meeting::{matches_any, meets};
 pub use numbering::Numbering;
+pub use page_needs::needs_page;

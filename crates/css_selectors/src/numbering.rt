@@ -1,8 +1,10 @@
 //! Numbers lists of selectors, and puts the numbers in place of pseudo-classes with lists.
 ghost use Rattle.std.specs.Prelude.{◌≡◌, ◌++◌, IfOk, List, map, option_map};
+ghost use Rattle.std.specs.List.{list_all};
 ghost use Rattle.css_selectors.specs.MarkedLists.{ListText, list_of};
 ghost use Rattle.css_selectors.specs.Numberings.{number_of, numbered_simple, numbered_condition, numbered_conditions};
 ghost use Rattle.css_selectors.specs.Numberings.{numbered_parts, numbered_element, numbered_each};
+ghost use Rattle.css_selectors.specs.internal.PlainParts.{is_plain_condition, is_plain_part};
 ghost use Rattle.css_selector_text.specs.Views.{simple_of, condition_of, part_of, complex_of, pseudo_element_of};
 
 use crate::{Complex, Condition, MarkedList, Nesting, Part, PseudoElement, Selector, Simple};
@@ -38,6 +40,45 @@ fn number_simple<'a>(numbers: &[usize], simple: Simple<'a>) -> Simple<'a>
         }),
         other => other,
     }
+}
+
+/// Whether the condition has no list, and is not `&`.
+fn is_plain(condition: &Condition<'_>) -> bool
+    ensures { result ≡ is_plain_condition (condition_of condition.now) }
+{
+    match condition {
+        Condition::Simple(Simple::Nesting(_)) => false,
+        Condition::Simple(_) => true,
+        Condition::Not(_) | Condition::Is(_) | Condition::Where(_) | Condition::Tested(..) => false,
+    }
+}
+
+/// Whether each of the conditions has no list, and is not `&`.
+fn are_plain(conditions: &[Condition<'_>]) -> bool
+    ensures { result ≡ list_all is_plain_condition (map condition_of conditions.now) }
+{
+    let mut rest = conditions;
+    'conditions: while let [condition, after @ ..] = rest {
+        if !is_plain(condition) {
+            return false;
+        }
+        rest = after;
+    }
+    true
+}
+
+/// Whether there is nothing to number in the parts.
+fn are_plain_parts(parts: &[Part<'_>]) -> bool
+    ensures { result ≡ list_all is_plain_part (map part_of parts.now) }
+{
+    let mut rest = parts;
+    'parts: while let [part, after @ ..] = rest {
+        if !are_plain(part.conditions.as_slice()) {
+            return false;
+        }
+        rest = after;
+    }
+    true
 }
 
 /// Returns the selectors of a list with numbers in place of pseudo-classes with lists, which are
@@ -122,7 +163,8 @@ fn number_conditions<'a>(
     Ok(numbered)
 }
 
-/// Returns the parts with numbers in place of pseudo-classes with lists, which are appended.
+/// Returns the parts with numbers in place of pseudo-classes with lists, which are appended. Parts without
+/// such stay where they are.
 #[cycle(numbering)]
 fn number_parts<'a>(
     alloc: Global,
@@ -134,6 +176,9 @@ fn number_parts<'a>(
         numbered_parts numbers.now (map list_of lists.old.items) (map part_of parts.entry.items)
         ≡ (map part_of numbered.items, map list_of lists.new.items)) }
 {
+    if are_plain_parts(parts.as_slice()) {
+        return Ok(parts);
+    }
     let mut numbered = Vec::with_capacity(alloc, parts.len())?;
     for part in parts {
         let conditions = number_conditions(alloc, numbers, lists, part.conditions)?;

@@ -9,7 +9,6 @@ mod RestLemmas
 mod RollingLemmas
 mod WinningLemmas
 mod GatherLemmas
-mod TakenLemmas
 mod StyleLemmas
 mod RankLemmas
 mod FloorLemmas

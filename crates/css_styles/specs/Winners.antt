@@ -1,19 +1,16 @@
 -- Which declarations win on an element.
-use Rattle.std.specs.Prelude.{◌≡◌, ◌⊎◌, ℕ, Bool, not, ◌&&◌, if◌then◌else◌, List, [], ◌∷◌, filter, map, Option, None, Some}
+use Rattle.std.specs.Prelude.{◌≡◌, ℕ, Bool, not, ◌&&◌, if◌then◌else◌, List, [], ◌∷◌, filter, map, Option, None, Some}
 use Rattle.std.specs.List.{All, AllPairs, Contains, list_any}
-use Rattle.std.specs.List.Sorted.{IsStrictlyIncreasing}
 use Rattle.std.specs.Ordering.{is_lt}
 use Rattle.std.specs.declared.cmp.Ordering.TheVariants.{Equal}
 use Rattle.css_text.specs.Ranks.{ordered_by}
 use Rattle.css_syntax.specs.DeclarationLists.{DeclarationText}
-use Rattle.css_selectors.specs.Documents.{Document}
 use Rattle.css_cascade.specs.Cascade.{Weighed, Wins, beats, cascade_cmp}
 use Rattle.css_cascade.specs.Rollbacks.{is_left, left}
 use Rattle.css_cascade.specs.declared.rollback.Rollback.TheVariants.{Nowhere}
 use Rattle.css_cascade.specs.declared.weights.Origin.TheVariants.{Hint}
-use Rattle.css_index.specs.Found.{MatchesAt}
 use Rattle.css_sheet.specs.SheetOrder.{SheetRuleText}
-use Rattle.css_styles.specs.Contenders.{Contender, OwnText, contenders, is_property, of_names, of_property, stated_at}
+use Rattle.css_styles.specs.Contenders.{Contender, OwnText, contenders, is_property, of_names, of_property}
 use Rattle.css_styles.specs.declared.winner.Source.{Source}
 
 -- A declaration that wins; where it is; and how many declarations are before it there.
@@ -124,15 +121,6 @@ abbrev pub AreApart : List Contender → Type 0
 AreApart found =
     (one other : Contender) → Contains found one → Contains found other
     → cascade_cmp one.weight other.weight ≡ Equal → one.weight ≡ other.weight
-
--- These are indices of rules that match the node, in order, each once; and a rule that matches it and is not among
--- them states nothing of the property.
-pub record AreStating {Node : Type 0} (document : Document Node) (n : Node) (property : List ℕ)
-    (rules : List SheetRuleText) (indices : List ℕ) : Type 0 where
-  pub ascending : IsStrictlyIncreasing indices
-  pub each : All (MatchesAt document n (map (λ (rule : SheetRuleText). rule.selector) rules)) indices
-  pub others : (index : ℕ) → MatchesAt document n (map (λ (rule : SheetRuleText). rule.selector) rules) index
-      → Contains indices index ⊎ (of_property property (stated_at rules index) ≡ [])
 
 -- No two of these, which stand at different places, are alike in the order of the cascade.
 abbrev pub AreDistinct : List Contender → Type 0

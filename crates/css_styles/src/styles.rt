@@ -3,11 +3,12 @@ ghost use Rattle.std.specs.Prelude.{◌≡◌, ◌<◌, ◌^◌, ℕ, List, [], 
 ghost use Rattle.css_matching.specs.ListTrees.{spot};
 ghost use Rattle.css_index.specs.Found.{AreMatches};
 ghost use Rattle.css_index.specs.Tested.{AreTried};
-ghost use Rattle.css_tree.specs.Pages.{Page, page_document};
+ghost use Rattle.css_tree.specs.Marks.{AreMarked};
+ghost use Rattle.css_tree.specs.Pages.{page_document};
 ghost use Rattle.css_tree.specs.Reports.{reported_of};
 ghost use Rattle.css_tree.specs.Walks.{IsOpenAt};
 ghost use Rattle.css_styles.specs.Contenders.{contenders};
-ghost use Rattle.css_styles.specs.StyleViews.{StylesText, names_of, own_of, winner_of};
+ghost use Rattle.css_styles.specs.StyleViews.{IsMarkedInHtml, StylesText, names_of, own_of, winner_of};
 ghost use Rattle.css_styles.specs.Winners.{AreWinners, winners};
 
 use crate::asked::find_asked;
@@ -22,16 +23,19 @@ use css_tree::{NumberedTree, TreeWalk};
 use std::alloc::{AllocError, Global};
 use std::marker::Model;
 
-/// A walk over the elements of a page: which declarations win on each.
+/// A walk over the elements of a page: which declarations win on each. The page is marked with the lists that the
+/// selectors of the rules ask by numbers ([`NumberedTree::mark`]), and while the walk lives it does not change.
 ///
 /// Elements may be asked in any order. Where each comes after the last one in the order of the document,
 /// it opens each element at most once, and only those with children. What a call takes beside the tests is
 /// linear in the declarations of the rules that match the element and of its style attribute, but
 /// for finding the names of the latter, and for sorting those that win, or all of them where one is rolled back.
 #[derive(Drop)]
-pub struct Styles<'s, 'a, 'w> {
+pub struct Styles<'s, 'a, 'w, 'p, 't> {
     /// The rules.
     rules: &'s StyleRules<'a>,
+    /// The page.
+    page: &'s NumberedTree<'p, 't>,
     /// The walk with their selectors.
     walk: TreeWalk<'s, 'w>,
     /// The indices of the rules that match an element. This list and the others are reused.
@@ -48,11 +52,12 @@ pub struct Styles<'s, 'a, 'w> {
     alloc: Global,
 }
 
-impl<'s, 'a, 'w> Model for Styles<'s, 'a, 'w> {
+impl<'s, 'a, 'w, 'p, 't> Model for Styles<'s, 'a, 'w, 'p, 't> {
     ghost use Rattle.std.specs.Prelude.{◌≡◌, length};
     ghost use Rattle.std.specs.Coded.{Coded, codes};
     ghost use Rattle.css_selector_text.specs.Codes.{condition_code};
     ghost use Rattle.css_selector_text.specs.Components.{Simple};
+    ghost use Rattle.css_tree.specs.Walks.{IsOpenAt};
     ghost use Rattle.css_styles.specs.StyleViews.{StylesText};
 
     ghost Value = { StylesText };
@@ -60,27 +65,27 @@ impl<'s, 'a, 'w> Model for Styles<'s, 'a, 'w> {
     ghost coded = { let simples : Coded Simple = Prim.hlevel codes in
         Prim.hlevel (codes, condition_code simples) };
 
-    ghost view = { λ s. record { rules = s.rules.now.rules; walk = s.walk.walk; place = s.walk.place } };
+    ghost view = { λ s. record { rules = s.rules.now.rules; page = s.page.now; walk = s.walk.walk } };
 
-    ghost invariant = { λ s. length s.walk.walk.selectors ≡ length s.rules.now.rules };
+    ghost invariant = { λ s. (length s.walk.walk.selectors ≡ length s.rules.now.rules)
+        × IsOpenAt s.page.now s.walk.walk s.walk.place };
 }
 
-impl<'s, 'a, 'w> Styles<'s, 'a, 'w> {
-    /// Returns these rules with a walk.
+impl<'s, 'a, 'w, 'p, 't> Styles<'s, 'a, 'w, 'p, 't> {
+    /// Returns these rules with a walk over a page.
     fn with_walk(
         alloc: Global,
         rules: &'s StyleRules<'a>,
+        page: &'s NumberedTree<'p, 't>,
         walk: TreeWalk<'s, 'w>,
-    ) -> Styles<'s, 'a, 'w>
-        requires { length walk.walk.selectors ≡ length rules.now.rules }
-        ensures { result ≡ record {
-          rules = rules.now.rules;
-          walk = walk.entry.walk;
-          place = walk.entry.place;
-        } }
+    ) -> Styles<'s, 'a, 'w, 'p, 't>
+        requires selectors { length walk.walk.selectors ≡ length rules.now.rules }
+        requires opened { IsOpenAt page.now walk.walk walk.place }
+        ensures { result ≡ record { rules = rules.now.rules; page = page.now; walk = walk.entry.walk } }
     {
         Styles {
             rules,
+            page,
             walk,
             matching: Vec::new(alloc),
             contenders: Vec::new(alloc),
@@ -91,32 +96,39 @@ impl<'s, 'a, 'w> Styles<'s, 'a, 'w> {
         }
     }
 
-    /// Returns a walk with an index of the rules, which it borrows. No element is open. Fails only if an
-    /// allocation fails.
-    pub fn new(alloc: Global, rules: &'s StyleRules<'a>) -> Result<Styles<'s, 'a, 'a>, AllocError>
+    /// Returns a walk over a page that is marked with the lists of the rules ([`StyleRules::lists`]), with an index of
+    /// the rules. No element is open. Fails only if an allocation fails.
+    pub fn new(
+        alloc: Global,
+        rules: &'s StyleRules<'a>,
+        page: &'s NumberedTree<'p, 't>,
+    ) -> Result<Styles<'s, 'a, 'a, 'p, 't>, AllocError>
+        requires marked { AreMarked rules.now.lists page.now }
         ensures rules { IfOk result (λ styles. styles.rules ≡ rules.now.rules) }
+        ensures page { IfOk result (λ styles. styles.page ≡ page.now) }
         ensures selectors { IfOk result (λ styles. styles.walk.selectors
             ≡ map (λ rule. rule.selector) rules.now.rules) }
-        ensures opened { IfOk result (λ styles. (page : Page) → IsOpenAt page styles.walk styles.place) }
     {
         let walk = TreeWalk::new(alloc, rules.as_slice())?;
-        Ok(Styles::with_walk(alloc, rules, walk))
+        Ok(Styles::with_walk(alloc, rules, page, walk))
     }
 
-    /// Returns a walk with an index of these selectors, which are those of the rules as a document reads
-    /// them, one for each rule. No element is open. Fails only if an allocation fails.
-    pub fn with_selectors(
+    /// Returns a walk over a page of an HTML document, with an index of these selectors, which are those of the rules as
+    /// the document reads them. So are the lists that the page is marked with. No element is open. Fails only if an
+    /// allocation fails.
+    pub fn in_html(
         alloc: Global,
         rules: &'s StyleRules<'a>,
         selectors: &'s [Selector<'w>],
-    ) -> Result<Styles<'s, 'a, 'w>, AllocError>
-        requires { length selectors.now ≡ length rules.now.rules }
+        page: &'s NumberedTree<'p, 't>,
+    ) -> Result<Styles<'s, 'a, 'w, 'p, 't>, AllocError>
+        requires marked { IsMarkedInHtml rules.now selectors.now page.now }
         ensures rules { IfOk result (λ styles. styles.rules ≡ rules.now.rules) }
+        ensures page { IfOk result (λ styles. styles.page ≡ page.now) }
         ensures selectors { IfOk result (λ styles. styles.walk.selectors ≡ selectors.now) }
-        ensures opened { IfOk result (λ styles. (page : Page) → IsOpenAt page styles.walk styles.place) }
     {
         let walk = TreeWalk::new(alloc, selectors)?;
-        Ok(Styles::with_walk(alloc, rules, walk))
+        Ok(Styles::with_walk(alloc, rules, page, walk))
     }
 
     /// Returns how many rules there are.
@@ -127,12 +139,19 @@ impl<'s, 'a, 'w> Styles<'s, 'a, 'w> {
         self.rules.count()
     }
 
+    /// Returns how many elements the page has.
+    pub fn element_count(&self) -> usize
+        ensures { result ≡ length self.now.page.rows }
+    {
+        self.page.len()
+    }
+
     /// Finds the declarations that win on the element at an index that has these of its own, and counts the
     /// tests as [`TreeWalk::matching`] does: for each property the one that counts and that no other that does
     /// beats. They are in the order of the cascade, the strongest last, so that each is to be applied after those
     /// before it: those of origins and layers in turn, presentation declarations before the author's rules,
     /// and those of the style attribute after all rules; then the important ones, of which those of an earlier
-    /// origin or layer are later. A walk is of one page alone.
+    /// origin or layer are later.
     ///
     /// An important declaration wins over others; then the origins decide, the presentation declarations being
     /// hints; then one of the attribute wins over those of rules; of those that are not important one in a
@@ -152,26 +171,25 @@ impl<'s, 'a, 'w> Styles<'s, 'a, 'w> {
     /// left, and the walk goes on.
     pub fn winners(
         &mut self,
-        page: &NumberedTree<'_, '_>,
         element: usize,
         own: Own<'a>,
         found: &mut Vec<Winner<'a>>,
         tests: &mut Tests,
     ) -> Result<(), AllocError>
-        requires element { element < length page.now.rows }
-        requires opened { IsOpenAt page.now self.old.walk self.old.place }
+        requires { element < length self.old.page.rows }
         ensures winners { OnOk result ((indices : List ℕ)
-            × AreMatches page_document (spot page.now element) self.old.walk.selectors indices
+            × AreMatches page_document (spot self.old.page element) self.old.walk.selectors indices
             × (map winner_of found.new.items ≡ winners self.old.rules indices (own_of own.entry))) }
         ensures tests { OnOk result ((tried : List ℕ)
-            × AreTried page_document (spot page.now element) (reported_of (spot page.now element))
+            × AreTried page_document (spot self.old.page element) (reported_of (spot self.old.page element))
             self.new.walk tried tests.old tests.new) }
-        ensures opened { IsOpenAt page.now self.new.walk self.new.place }
         ensures rules { self.new.rules ≡ self.old.rules }
+        ensures page { self.new.page ≡ self.old.page }
         ensures selectors { self.new.walk.selectors ≡ self.old.walk.selectors }
         ensures err { OnErr result (found.new.items ≡ []) }
     {
         found.clear();
+        let page = self.page;
         self.walk
             .matching(page, element, &mut self.matching, tests)?;
         let all = &mut self.contenders;
@@ -197,28 +215,27 @@ impl<'s, 'a, 'w> Styles<'s, 'a, 'w> {
     /// fails; then no items are left, and the walk goes on.
     pub fn winners_named(
         &mut self,
-        page: &NumberedTree<'_, '_>,
         element: usize,
         own: Own<'a>,
         asked: &[&[&str]],
         found: &mut Vec<Option<Winner<'a>>>,
         tests: &mut Tests,
     ) -> Result<(), AllocError>
-        requires element { element < length page.now.rows }
-        requires opened { IsOpenAt page.now self.old.walk self.old.place }
+        requires { element < length self.old.page.rows }
         ensures winners { OnOk result ((indices : List ℕ)
-            × AreMatches page_document (spot page.now element) self.old.walk.selectors indices
+            × AreMatches page_document (spot self.old.page element) self.old.walk.selectors indices
             × AreWinners (contenders self.old.rules indices (own_of own.entry))
             (names_of asked.now) (map (option_map winner_of) found.new.items)) }
         ensures tests { OnOk result ((tried : List ℕ)
-            × AreTried page_document (spot page.now element) (reported_of (spot page.now element))
+            × AreTried page_document (spot self.old.page element) (reported_of (spot self.old.page element))
             self.new.walk tried tests.old tests.new) }
-        ensures opened { IsOpenAt page.now self.new.walk self.new.place }
         ensures rules { self.new.rules ≡ self.old.rules }
+        ensures page { self.new.page ≡ self.old.page }
         ensures selectors { self.new.walk.selectors ≡ self.old.walk.selectors }
         ensures err { OnErr result (found.new.items ≡ []) }
     {
         found.clear();
+        let page = self.page;
         self.walk
             .matching(page, element, &mut self.matching, tests)?;
         let all = &mut self.contenders;

@@ -1,7 +1,8 @@
 -- Kinds of elements: those with one parent and one type.
 -- Serves `kinds` and `Numbering`.
-use Rattle.std.proofs.Common.{◌≡◌, ℕ, suc, ◌+◌, ◌<◌, ◌≤◌, ◌⊎◌, inl, inr, Bool, true, false, ◌&&◌, cond, List, length, Option, None, Some, refl, sym, ap, subst, ◌∙◌, add-one, arith, Bor}
-use Rattle.std.specs.Prelude.{◌==◌, bytes_eq}
+use Rattle.std.proofs.Common.{◌≡◌, ℕ, suc, [], ◌+◌, ◌<◌, ◌≤◌, ◌⊎◌, inl, inr, Bool, true, false, ◌&&◌, cond, List, length, Option, None, Some, refl, sym, ap, subst, ◌∙◌, add-one, arith, Bor}
+use Rattle.std.specs.Prelude.{◌==◌, EachIndex, bytes_eq, slice_index}
+use Rattle.std.proofs.lemmas.List.{get_or_past}
 use Rattle.std.specs.BTreeMap.{BTreeMap, get}
 use Rattle.std.specs.Bool.{Decides}
 use Rattle.std.specs.Cmp.{unsigned_tied}
@@ -17,7 +18,7 @@ use Rattle.css_elements.specs.Rows.{Row}
 use Rattle.css_elements.specs.TreeNodes.{name_at}
 use Rattle.css_tree.specs.Counts.{count_below, last_below, first_below}
 use Rattle.css_tree.specs.GroupViews.{is_in_group}
-use Rattle.css_tree.specs.Keys.{KindKey, kind, kind_cmp, has_kind, IsLarge, AreNamed}
+use Rattle.css_tree.specs.Keys.{KindKey, kind, kind_cmp, has_kind, HasKinds, IsLarge, AreNamed}
 use Rattle.css_tree.specs.Pages.{family, have_one_type, is_sibling, is_alike, namespace_at}
 use Rattle.css_tree.specs.declared.kinds.TheConstants.{COMPARED}
 use Rattle.css_tree.proofs.Counting.{IsLast, last_below-is, first_below-none, first_below-from, first_below-false, first_below-passes, first_below-same}
@@ -187,11 +188,40 @@ module _ (rows : List Row) (namespaces : List ℕ) where
         ];
       }
 
-      -- it has the element's type
+      -- it has the element's type, so it is like the element
+      pub compared-alike : have_one_type rows namespaces i s ≡ true
+          → is_alike rows namespaces i s ≡ true
+      compared-alike same = (alike i s).1 (same_family, (one_type i s).0 same)
+
       pub compared-same : have_one_type rows namespaces i s ≡ true
           → kind rows namespaces i ≡ kind rows namespaces s
-      compared-same same =
-          kind-alike i s sooner ((alike i s).1 (same_family, (one_type i s).0 same))
+      compared-same same = kind-alike i s sooner (compared-alike same)
+
+-- ---- no namespaces
+
+pub none_spaced : (namespaces : List ℕ) → EachIndex namespaces (λ k. slice_index namespaces k ≡ 0)
+    → (i : ℕ) → namespace_at namespaces i ≡ 0
+none_spaced namespaces each i = elim (within i (length namespaces)) [
+  | inl less ↦ each i less
+  | inr more ↦ get_or_past namespaces i 0 more
+]
+  where
+    within : (m n : ℕ) → (m < n) ⊎ (n ≤ m)
+    within m n = grind arith
+
+-- elements that are all in no namespace are of the kinds that they have without namespaces
+pub kinds-unspaced : (rows : List Row) (namespaces kinds : List ℕ) (n : ℕ)
+    → ((i : ℕ) → namespace_at namespaces i ≡ 0) → HasKinds rows [] kinds n
+    → HasKinds rows namespaces kinds n
+kinds-unspaced rows namespaces kinds n none are = record {
+  all = are.all;
+  each = λ i lt. are.each i lt ∙ ap (λ r. Some (unwrap_or r i))
+      (first_below-same (is_alike rows [] i) (is_alike rows namespaces i) i (same i));
+}
+  where
+    same : (i j : ℕ) → is_alike rows [] i j ≡ is_alike rows namespaces i j
+    same i j = λ t. is_sibling rows i j
+        && (sym (none i) t == sym (none j) t && bytes_eq (name_at rows i) (name_at rows j))
 
 -- ---- kinds by families, namespaces and names
 
@@ -273,7 +303,7 @@ module _ (rows : List Row) (namespaces families : List ℕ) (n : ℕ) where
       && (namespace_at namespaces n == namespace_at namespaces j && bytes_eq m (name_at rows j))) e.1.1
 
   -- an element that is like an earlier one
-  named-again : (s : ℕ) (old : BTreeMap KindKey ℕ) → s < n → is_alike rows namespaces n s ≡ true
+  pub named-again : (s : ℕ) (old : BTreeMap KindKey ℕ) → s < n → is_alike rows namespaces n s ≡ true
       → AreNamed rows namespaces families old n → AreNamed rows namespaces families old (n + 1)
   named-again s old lt is are key large =
       rw add-one (are key large ∙ of (has_kind rows namespaces key n) refl)

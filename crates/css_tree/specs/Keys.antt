@@ -1,5 +1,5 @@
 -- The numbers by which the elements of a tree are grouped.
-use Rattle.std.specs.Prelude.{◌≡◌, ℕ, ◌<◌, ◌&&◌, ◌==◌, Bool, List, length, Some, bytes_eq}
+use Rattle.std.specs.Prelude.{◌≡◌, ℕ, ◌+◌, ◌<◌, ◌&&◌, ◌==◌, Bool, List, length, Some, bytes_eq}
 use Rattle.std.specs.Borrow.{Bor}
 use Rattle.std.specs.BTreeMap.{BTreeMap, get}
 use Rattle.std.specs.Cmp.Lexicographic.{slice_cmp}
@@ -65,3 +65,8 @@ abbrev pub AreNamed : List Row → (namespaces : List ℕ) → List ℕ → BTre
 AreNamed rows namespaces families named n =
     (key : KindKey) → IsLarge families key.0
     → get kind_cmp named key ≡ first_below (has_kind rows namespaces key) n
+
+-- an element of a kind that is named before: what is named below its index is so with it
+abbrev pub NamesNoMore : List Row → (namespaces : List ℕ) → List ℕ → ℕ → Type 0
+NamesNoMore rows namespaces families n = (named : BTreeMap KindKey ℕ)
+    → AreNamed rows namespaces families named n → AreNamed rows namespaces families named (n + 1)

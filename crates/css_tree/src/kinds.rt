@@ -1,8 +1,8 @@
 //! Kinds of elements: those with one parent and one type, which is a namespace and a name.
-ghost use Rattle.std.specs.Prelude.{◌≡◌, ◌<◌, ◌+◌, length, IfOk};
+ghost use Rattle.std.specs.Prelude.{◌≡◌, ◌<◌, ◌+◌, length, IfOk, IfSome};
 ghost use Rattle.css_elements.specs.TreeNodes.{name_at};
 ghost use Rattle.css_tree.specs.Keys.{AreFamilies, AreKinds, HasKinds};
-ghost use Rattle.css_tree.specs.Keys.{AreNamed, kind};
+ghost use Rattle.css_tree.specs.Keys.{AreNamed, NamesNoMore, kind};
 ghost use Rattle.css_tree.specs.Pages.{namespace_at, have_one_type as are_of_one_type};
 
 use crate::groups::Groups;
@@ -62,6 +62,31 @@ fn kind_by_siblings(
     index
 }
 
+/// Returns the number of the kind of an element, if its previous sibling has its type. Then its kind is
+/// among those of the elements before it.
+fn kind_of_previous(
+    tree: &Tree<'_>,
+    namespaces: &[usize],
+    families: &Groups,
+    kinds: &[usize],
+    index: usize,
+) -> Option<usize>
+    requires within { index < length tree.now }
+    requires families { AreFamilies tree.now families.now }
+    requires kinds { HasKinds tree.now namespaces.now kinds.now index }
+    ensures kind { IfSome result (λ number. number ≡ kind tree.now namespaces.now index) }
+    ensures named { IfSome result (λ _. NamesNoMore tree.now namespaces.now families.now index) }
+{
+    let Some(sibling) = families.before(index).last else {
+        return None;
+    };
+    if have_one_type(tree, namespaces, index, sibling) {
+        Some(kinds[sibling])
+    } else {
+        None
+    }
+}
+
 /// Returns the number of the kind of an element. In a large family its type is searched among those of
 /// the family, each with the number of its kind.
 fn kind_of<'t>(
@@ -82,6 +107,9 @@ fn kind_of<'t>(
     let family = families.number(index);
     if families.count(family) <= COMPARED {
         return Ok(kind_by_siblings(tree, namespaces, families, kinds, index));
+    }
+    if let Some(number) = kind_of_previous(tree, namespaces, families, kinds, index) {
+        return Ok(number);
     }
     let key = (
         family,

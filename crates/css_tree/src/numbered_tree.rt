@@ -1,5 +1,6 @@
 //! Trees whose siblings are counted.
 ghost use Rattle.std.specs.Prelude.{◌≡◌, ◌<◌, ◌≤◌, ◌^◌, ℕ, length, slice_get, slice_index_or};
+ghost use Rattle.std.specs.Prelude.{◌↔◌, IsTrue, EachIndex, slice_index};
 ghost use Rattle.std.specs.Prelude.{◌&&◌, ◌||◌, map, false, codes, IfOk, IfErr, IfSome, MatchOption, OnOk, OnErr, true, None, []};
 ghost use Rattle.std.specs.Option.{option_map};
 ghost use Rattle.css_matching.specs.ListTrees.{spot};
@@ -190,6 +191,13 @@ fn parent_of(tree: &Tree<'_>, index: usize) -> Option<usize>
     tree.parent(index)
 }
 
+/// Whether all elements are in no namespace, by the numbers of namespaces.
+fn are_in_none(namespaces: &[usize]) -> bool
+    ensures { IsTrue result ↔ EachIndex namespaces.now (λ k. slice_index namespaces.now k ≡ 0) }
+{
+    namespaces.iter().all(|number| *number == 0)
+}
+
 /// Returns the number of the family of an element: 0 for those without a parent, or one more than
 /// the index of the parent.
 fn family_of(tree: &Tree<'_>, index: usize) -> usize
@@ -342,8 +350,8 @@ impl<'p, 't> NumberedTree<'p, 't> {
     }
 
     /// Says which namespaces the elements are in, each by its number. The number of no namespace is 0, and
-    /// elements after the last of these are in none, as all are before this call. The siblings of each
-    /// element that have its type, a namespace and a name, are counted again.
+    /// elements after the last of these are in none, as all are before this call. Where an element is in a
+    /// namespace, the siblings of each that have its type, a namespace and a name, are counted again.
     ///
     /// Fails only if an allocation fails; then the tree is unchanged.
     pub fn set_namespaces(
@@ -358,6 +366,10 @@ impl<'p, 't> NumberedTree<'p, 't> {
         ensures marks { self.new.marks ≡ self.old.marks }
         ensures html { self.new.is_html ≡ self.old.is_html }
     {
+        if self.namespaces.is_empty() && are_in_none(&namespaces) {
+            self.namespaces = namespaces;
+            return Ok(());
+        }
         let kinds = kinds_of(alloc, self.tree, namespaces.as_slice(), &self.families)?;
         self.kinds = Groups::new(alloc, kinds, self.tree.len())?;
         self.namespaces = namespaces;
@@ -532,7 +544,7 @@ impl<'p, 't> NumberedTree<'p, 't> {
             || is_in_named self.now.given.states index name.now) }
     {
         self.is_in_html_state(index, name)
-            || !is_of_tree(name) && has_state(&self.states, index, name)
+            || !self.states.is_empty() && !is_of_tree(name) && has_state(&self.states, index, name)
     }
 
     /// Whether a list of selectors matches an element, by the index of the list among those that have a

@@ -13,3 +13,4 @@ pub mod RegisteredLemmas
 pub mod RegisteringLemmas
 pub mod NameLemmas
 pub mod LineLemmas
+pub mod RefusedLemmas

@@ -34,12 +34,12 @@ part_before-takes byte (b ∷ text) = by (after_byte byte (b ∷ text)) (after-l
     by None h = omega arith
     by (Some rest) h = h
 
-parts-none : (byte : ℕ) (rest : List ℕ) → part_before byte rest ≡ None
+pub parts-none : (byte : ℕ) (rest : List ℕ) → part_before byte rest ≡ None
     → parts_between byte rest ≡ []
 parts-none byte rest e =
     ap (λ (r : List (List ℕ) × List ℕ). r.0) (each-none (part_before byte) rest e)
 
-parts-some : (byte : ℕ) (rest front left : List ℕ) → part_before byte rest ≡ Some (front, left)
+pub parts-some : (byte : ℕ) (rest front left : List ℕ) → part_before byte rest ≡ Some (front, left)
     → parts_between byte rest ≡ front ∷ parts_between byte left
 parts-some byte rest front left e =
     ap (λ (r : List (List ℕ) × List ℕ). r.0)

@@ -6,6 +6,8 @@ pub mod Registrations
 pub mod Resolution
 pub mod Registered
 pub mod Names
+pub mod Refused
+pub mod RefusedViews
 pub mod Lines
 pub mod Views
 pub mod internal

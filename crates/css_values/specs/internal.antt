@@ -1,2 +1,3 @@
 pub mod Readings
 pub mod Paths
+pub mod Joined

@@ -10,15 +10,15 @@ use std::alloc::{AllocError, Global};
 
 /// Two parts of a text.
 #[derive(Clone, Copy)]
-struct Parts<'a> {
+pub(crate) struct Parts<'a> {
     /// What is before a byte.
-    front: &'a str,
+    pub(crate) front: &'a str,
     /// What is after it.
-    rest: &'a str,
+    pub(crate) rest: &'a str,
 }
 
 /// Returns the text before the first such byte, and the one after it.
-fn cut(text: &str, byte: u8) -> Parts<'_>
+pub(crate) fn cut(text: &str, byte: u8) -> Parts<'_>
     requires { byte < 128 }
     ensures { cut_at byte text.now ≡ (result.front.now, result.rest.now) }
 {
@@ -35,7 +35,7 @@ fn cut(text: &str, byte: u8) -> Parts<'_>
 }
 
 /// Returns the part before the first such byte, and the rest, unless the text is at its end.
-fn part_before(text: &str, byte: u8) -> Option<Parts<'_>>
+pub(crate) fn part_before(text: &str, byte: u8) -> Option<Parts<'_>>
     requires { byte < 128 }
     ensures { part_before_of byte text.now ≡ option_map (λ p. (p.front.now, p.rest.now)) result }
 {

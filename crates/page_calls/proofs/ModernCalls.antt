@@ -1,5 +1,5 @@
 -- What a call for modern selectors answers.
--- Serves `modern::{refusal, page_lines, match_selectors, select}`.
+-- Serves `modern::{refusal, page_lines, match_selectors}`.
 use Rattle.std.proofs.Common.{◌≡◌, ℕ, List, Option, None, Some, length, inl, inr, sym, ap, subst, ◌∙◌}
 use Rattle.std.specs.Prelude.{Result, Ok, Err, MatchResult, string_bytes}
 use Rattle.std.specs.declared.string.String.{String}
@@ -16,13 +16,12 @@ use Rattle.call_answers.specs.declared.answer.CallError.{CallError}
 use Rattle.call_answers.specs.declared.answer.CallError.TheVariants.{Memory, NotUtf8}
 use Rattle.page_calls.specs.declared.modern.document_kind.DocumentKind.{DocumentKind}
 use Rattle.call_answers.specs.declared.pages.LineContent.{LineContent}
-use Rattle.call_answers.specs.declared.pages.LineContent.TheVariants.{Numbers, Selected}
+use Rattle.call_answers.specs.declared.pages.LineContent.TheVariants.{Numbers}
 use Rattle.call_answers.specs.Outcomes.{outcome_of}
 use Rattle.call_answers.specs.Elements.{attributes_by, named_states}
 use Rattle.call_answers.specs.Calls.{FailsFor, FailsWithin, FailsLonger, HasTexts, HasNoSelector, AreSelectorsIn, HasBadEnds, IsBrokenUtf8, Passed, passed_tree, passed_names, passed_states, passed_attributes, passed_spaced, passed_declared}
-use Rattle.page_calls.specs.ModernCalls.{AreNumberedLines, AreReadLines, IsModernRefusalCall, IsModernMatchCall, IsModernSelectCall}
+use Rattle.page_calls.specs.ModernCalls.{AreNumberedLines, AreReadLines, IsModernRefusalCall, IsModernMatchCall}
 use Rattle.page_calls.specs.ModernLines.{IsRefusal, page_with}
-use Rattle.page_calls.specs.Readings.{selectors_of}
 use Rattle.page_calls.proofs.ModernPages.{fails_wider}
 use Rattle.call_answers.proofs.Limits.{fails_within, within_wider, longer_wider}
 
@@ -124,27 +123,6 @@ selectors-failed most buffer ends kind passed texts has error h =
     (λ is. is) (λ is. absurd is) error
     (fails_within (HasNoSelector selector_of texts) (λ fault. ⊥) ⊥ ⊥ ⊥ error h)
 
--- the lines that are due for a list of selectors
-pub select-due : {Z : Type 0} (most : ℕ) (text : List ℕ) (kind : DocumentKind) (passed : Passed)
-    (selectors : List Selector) → IsUtf8 text
-    → selectors_of (passed_declared passed) text ≡ Some selectors
-    → (r : Result (String Z) CallError)
-    → ReadLines r (AreReadLines most Selected kind selectors passed) passed
-    → IsModernSelectCall most text kind passed (outcome_of r)
-select-due most text kind passed selectors utf8 is (Ok lines) due = (selectors, utf8, is, due)
-select-due most text kind passed selectors utf8 is (Err error) due =
-    within_wider (λ is. absurd is) (λ fault is. is) (λ broken. inr broken) (λ is. is)
-    (λ longer. (selectors, utf8, is, longer)) error due
-
--- why the text is no list
-pub list-failed : (most : ℕ) (text read : List ℕ) (kind : DocumentKind) (passed : Passed) → read ≡ text
-    → (error : CallError) → FailsFor (selectors_of (passed_declared passed) read ≡ None) (λ fault. ⊥) ⊥ error
-    → IsModernSelectCall most text kind passed (Err error)
-list-failed most text read kind passed same error h =
-    within_wider (λ none. ap (selectors_of (passed_declared passed)) (sym same) ∙ none) (λ fault is. absurd is)
-    (λ is. absurd is) (λ is. is) (λ is. absurd is) error
-    (fails_within (selectors_of (passed_declared passed) read ≡ None) (λ fault. ⊥) ⊥ ⊥ ⊥ error h)
-
 -- a page with the names of states and the attributes that were read
 abbrev pub read-page : DocumentKind → Passed → List (List ℕ) → List (ℕ × NamespacedAttribute) → List Row
     → Page
@@ -175,13 +153,3 @@ pub read-due : {Z : Type 0} (most : ℕ) (content : LineContent) (kind : Documen
 read-due most content kind selectors passed rows names attributes utf8 tree named placed r due =
     lines-due most content kind selectors passed rows (read-page kind passed names attributes rows) utf8 tree
     (read-page-same kind passed names attributes rows named placed) r due
-
--- why the tree is none
-pub select-tree-failed : (most : ℕ) (text : List ℕ) (kind : DocumentKind) (passed : Passed)
-    (error : CallError)
-    → FailsFor ⊥ (λ fault. passed_tree passed ≡ Err fault) (¬ (IsUtf8 passed.strings)) error
-    → IsModernSelectCall most text kind passed (Err error)
-select-tree-failed most text kind passed error h =
-    within_wider (λ is. absurd is) (λ fault is. is) (λ broken. inr broken) (λ is. is)
-    (λ is. absurd is) error
-    (fails_within ⊥ (λ fault. passed_tree passed ≡ Err fault) (¬ (IsUtf8 passed.strings)) ⊥ ⊥ error h)

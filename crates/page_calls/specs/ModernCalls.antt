@@ -10,11 +10,11 @@ use Rattle.css_elements.specs.Rows.{Row}
 use Rattle.call_answers.specs.declared.answer.CallError.{CallError}
 use Rattle.page_calls.specs.declared.modern.document_kind.DocumentKind.{DocumentKind}
 use Rattle.call_answers.specs.declared.pages.LineContent.{LineContent}
-use Rattle.call_answers.specs.declared.pages.LineContent.TheVariants.{Numbers, Selected}
+use Rattle.call_answers.specs.declared.pages.LineContent.TheVariants.{Numbers}
 use Rattle.call_answers.specs.Calls.{FailsFor, FailsWithin, HasTexts, HasBadEnds, IsBrokenUtf8, HasRefusedText, AreSelectorsIn, Passed, passed_tree, passed_states, passed_spaced, passed_declared}
 use Rattle.page_calls.specs.MarkedPages.{AreOnMarked}
 use Rattle.page_calls.specs.ModernLines.{IsRefusal, page_with, AreModernLines}
-use Rattle.page_calls.specs.Readings.{selector_as, selectors_of}
+use Rattle.page_calls.specs.Readings.{selector_as}
 
 -- where the text is no list of selectors, and why, or nothing where it is one, where a tree declares names
 abbrev pub IsModernRefusalCall : List ℕ → Passed → Result (List ℕ) CallError → Type 0
@@ -64,20 +64,3 @@ IsModernMatchCall most buffer ends kind passed (Err error) =
     (λ fault. passed_tree passed ≡ Err fault)
     (IsBrokenUtf8 buffer ends ⊎ ¬ (IsUtf8 passed.strings)) ⊥
     (AreModernMatched most buffer ends kind passed None) error
-
--- which elements one of the selectors of a list matches, or none within a limit
-abbrev pub AreModernSelected : (most : ℕ) → List ℕ → DocumentKind → Passed → Option (List ℕ)
-    → Type 0
-AreModernSelected most text kind passed answer =
-    (selectors : List Selector) × IsUtf8 text × (selectors_of (passed_declared passed) text ≡ Some selectors)
-    × AreReadLines most Selected kind selectors passed answer
-
--- which elements one of the selectors of a list matches, in at most this number of bytes
-abbrev pub IsModernSelectCall : (most : ℕ) → List ℕ → DocumentKind → Passed
-    → Result (List ℕ) CallError → Type 0
-IsModernSelectCall most text kind passed (Ok bytes) =
-    AreModernSelected most text kind passed (Some bytes)
-IsModernSelectCall most text kind passed (Err error) =
-    FailsWithin (selectors_of (passed_declared passed) text ≡ None)
-    (λ fault. passed_tree passed ≡ Err fault) (¬ (IsUtf8 text) ⊎ ¬ (IsUtf8 passed.strings)) ⊥
-    (AreModernSelected most text kind passed None) error

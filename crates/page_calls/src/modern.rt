@@ -10,7 +10,7 @@ ghost use Rattle.call_answers.specs.internal.Attributes.{placed_attribute_of};
 ghost use Rattle.page_calls.specs.MarkedPages.{AreOnMarked};
 ghost use Rattle.page_calls.specs.ModernLines.{page_with};
 ghost use Rattle.page_calls.specs.ModernCalls.{IsModernRefusalCall, AreLinesOn, AreNumberedLines, AreReadLines};
-ghost use Rattle.page_calls.specs.ModernCalls.{IsModernMatchCall, IsModernSelectCall};
+ghost use Rattle.page_calls.specs.ModernCalls.{IsModernMatchCall};
 ghost use Rattle.call_answers.specs.Outcomes.{outcome_of};
 
 mod document_kind;
@@ -145,28 +145,4 @@ pub fn match_selectors(
     let texts = texts_of(alloc, buffer, ends)?;
     let selectors = lists::read_selectors(alloc, &texts)?;
     page_lines(alloc, LineContent::Numbers, kind, selectors, tree, most)
-}
-
-/// The numbers of the elements of a tree that one of the selectors of a list matches.
-pub fn select(
-    alloc: Global,
-    text: &[u8],
-    kind: DocumentKind,
-    tree: PassedTree<'_>,
-    most: usize,
-) -> Result<String, CallError>
-    ensures { IsModernSelectCall most text.now kind (passed_of tree.entry) (outcome_of result) }
-{
-    let text = text_of(text)?;
-    let read = read_named_tree(alloc, tree)?;
-    let selectors = lists::read_list(alloc, &names_in(&read), text)?;
-    read_lines(
-        alloc,
-        LineContent::Selected,
-        kind,
-        selectors,
-        &read,
-        tree.elements,
-        most,
-    )
 }

@@ -1,5 +1,5 @@
 -- What a call over a tree answers, and one with a limit on its answer.
--- Serves `calls::read` and `port::{matches, select, match_selectors, style, styles}`.
+-- Serves `port::{matches, select, match_selectors, styles}`.
 use Rattle.std.proofs.Common.{◌≡◌, ◌<◌, ◌≤◌, ℕ, List, length, Option, None, Some, inl, inr, sym, ap, ◌∙◌, subst}
 use Rattle.std.specs.Prelude.{Vec, Result, Ok, Err, MatchResult, string_bytes}
 use Rattle.std.specs.Result.{IsErrAnd}
@@ -15,9 +15,8 @@ use Rattle.call_answers.specs.declared.answer.CallError.{CallError}
 use Rattle.call_answers.specs.declared.answer.CallError.TheVariants.{Refused, Tree, Memory, TooManyDeclarations, NotUtf8, AnswerTooLong, TooManyLayers}
 use Rattle.call_answers.specs.Outcomes.{outcome_of, numbers_outcome}
 use Rattle.call_answers.specs.declared.pages.LineContent.TheVariants.{Numbers, Selected}
-use Rattle.call_answers.specs.Calls.{FailsOnPage, HasTexts, IsReadPage, Passed, passed_tree, IsPageCall, IsStyleCall, IsPortSelectCall, IsPortMatchSelectorsCall, AreSelectorsIn, HasNoSelector, HasBadEnds, IsBrokenUtf8, FailsFor, FailsLonger}
-use Rattle.call_answers.specs.AnswerLines.{AreLinesOf, AreWinnerLines}
-use Rattle.call_answers.specs.SheetNumbers.{IsReadCall, sheet_numbers}
+use Rattle.call_answers.specs.Calls.{FailsOnPage, HasTexts, IsReadPage, Passed, passed_tree, IsPageCall, IsPortSelectCall, IsPortMatchSelectorsCall, AreSelectorsIn, HasNoSelector, HasBadEnds, IsBrokenUtf8, FailsFor, FailsLonger}
+use Rattle.call_answers.specs.AnswerLines.{AreLinesOf}
 use Rattle.call_answers.proofs.Limits.{fails_within, within_wider, longer_wider}
 
 -- the lines that are due, or why there are none
@@ -45,20 +44,6 @@ page_failed IsAnswer buffer ends limit passed (Err reported) failure is due =
     subst (λ f. IsPageCall IsAnswer buffer ends limit passed (Err f)) (sym is)
     (within_wider (λ bad. bad) (λ fault is. is) (λ broken. broken) (λ over. over) (λ is. absurd is)
     failure due)
-
--- the lines that are due for a name, or why there are none
-pub style_due : {Z : Type 0} (most : ℕ) (buffer ends : List ℕ) (limit : ℕ) (passed : Passed)
-    (name : List ℕ) → IsUtf8 name → (r : Result (String Z) CallError)
-    → IsPageCall (AreWinnerLines most name) buffer ends limit passed (outcome_of r)
-    → IsStyleCall most buffer ends limit passed name (outcome_of r)
-style_due most buffer ends limit passed name utf8 (Ok text) h = (utf8, h)
-style_due most buffer ends limit passed name utf8 (Err Refused) h = h
-style_due most buffer ends limit passed name utf8 (Err (Tree fault)) h = h
-style_due most buffer ends limit passed name utf8 (Err Memory) h = tt
-style_due most buffer ends limit passed name utf8 (Err TooManyDeclarations) h = h
-style_due most buffer ends limit passed name utf8 (Err NotUtf8) h = inl h
-style_due most buffer ends limit passed name utf8 (Err AnswerTooLong) h = (utf8, h)
-style_due most buffer ends limit passed name utf8 (Err TooManyLayers) h = h
 
 -- the lines that are due for a list of selectors, or why there are none
 pub select_due : {Z : Type 0} (most : ℕ) (text : List ℕ) (passed : Passed)
@@ -121,17 +106,6 @@ match_due most buffer ends passed texts rows has selectors read utf8 tree matche
       tree,
       subst (λ ss. AreLinesOf most Numbers ss rows None) are longer,
     )) failure due
-
--- the numbers of the statements of a sheet that are due, of a text that was read, or why there are none
-pub read_due : {Z : Type 0} (most : ℕ) (text read : List ℕ) → read ≡ text → IsUtf8 text
-    → (r : Result (Vec ℕ Z) CallError)
-    → MatchResult r (λ out. (out.items ≡ sheet_numbers read) × (length out.items ≤ most))
-    (FailsLonger (most < length (sheet_numbers read)))
-    → IsReadCall most text (numbers_outcome r)
-read_due most text read same utf8 (Ok out) due = (utf8, due.0 ∙ ap sheet_numbers same, due.1)
-read_due most text read same utf8 (Err failure) due =
-    longer_wider _ _ _ _ (λ longer. (utf8, subst (λ t. most < length (sheet_numbers t)) same longer))
-    failure due
 
 -- why the texts of selectors are none
 pub texts_failed : (most : ℕ) (buffer ends : List ℕ) (passed : Passed) (failure : CallError)

@@ -8,10 +8,11 @@ ghost use Rattle.cssq.specs.SelectorRuns.{selector_in};
 ghost use Rattle.call_answers.specs.Outcomes.{outcome_of};
 ghost use Rattle.call_answers.specs.AnswerLines.{AreMatchLines};
 ghost use Rattle.call_answers.specs.Calls.{FailsWithin, FailsLonger, IsReadWithin};
-ghost use Rattle.call_answers.specs.Calls.{IsSelectorCall, IsSheetCall, IsPrinted, IsMatchCall};
+ghost use Rattle.call_answers.specs.Calls.{IsSheetCall, IsPrinted, IsMatchCall};
 ghost use Rattle.call_answers.specs.Calls.{IsPortMatchSelectorsCall, AreSelectorsIn, HasNoSelector, FailsFor};
-ghost use Rattle.call_answers.specs.Calls.{FailsOnPage, IsReadPage, IsPortSelectCall, IsStyleCall, passed_of};
+ghost use Rattle.call_answers.specs.Calls.{FailsOnPage, IsReadPage, IsPortSelectCall, passed_of};
 ghost use Rattle.call_answers.specs.Calls.{AreRuleTexts, IsSkippedCall, IsPortRefusalCall, IsStylesCall};
+ghost use Rattle.port_calls.specs.PortCalls.{IsPortCall, question_of as question_of_number};
 
 use crate::lists;
 use crate::lists::selectors_of;
@@ -20,7 +21,7 @@ use call_answers::elements::{PassedTree, read_tree};
 use call_answers::pages::{LineContent, WonContent, lines, won_lines};
 use call_answers::port_texts::{rule_texts, skipped_texts};
 use call_answers::texts::{text_of, texts_of};
-use cssq::runs::{selector_line, sheet_text};
+use cssq::runs::sheet_text;
 use log::sink::Discard;
 use simplecss::{Reading, Selector, Silent, StyleSheet, find_skipped};
 use simplecss_tree::Tree;
@@ -45,25 +46,8 @@ fn read_sheet<'a>(
     Ok(sheet)
 }
 
-/// The line of a selector.
-pub fn selector(alloc: Global, text: &[u8]) -> Result<String, CallError>
-    ensures { IsSelectorCall text.now (outcome_of result) }
-{
-    let text = text_of(text)?;
-    let Some(selector) = Selector::parse(&Discard, alloc, text)? else {
-        return Err(CallError::Refused);
-    };
-    let line = selector_line(alloc, selector)?;
-    Ok(line)
-}
-
 /// The printed sheet.
-pub fn sheet(
-    alloc: Global,
-    buffer: &[u8],
-    ends: &[usize],
-    limit: usize,
-) -> Result<String, CallError>
+fn sheet(alloc: Global, buffer: &[u8], ends: &[usize], limit: usize) -> Result<String, CallError>
     ensures { IsSheetCall IsPrinted buffer.now ends.now limit (outcome_of result) }
 {
     let texts = texts_of(alloc, buffer, ends)?;
@@ -73,12 +57,7 @@ pub fn sheet(
 }
 
 /// What is written of the rules of a sheet.
-pub fn rules(
-    alloc: Global,
-    buffer: &[u8],
-    ends: &[usize],
-    limit: usize,
-) -> Result<String, CallError>
+fn rules(alloc: Global, buffer: &[u8], ends: &[usize], limit: usize) -> Result<String, CallError>
     ensures { IsSheetCall AreRuleTexts buffer.now ends.now limit (outcome_of result) }
 {
     let texts = texts_of(alloc, buffer, ends)?;
@@ -87,7 +66,7 @@ pub fn rules(
 }
 
 /// What is written of the pieces of a style sheet's text that are skipped.
-pub fn skipped(alloc: Global, text: &[u8]) -> Result<String, CallError>
+fn skipped(alloc: Global, text: &[u8]) -> Result<String, CallError>
     ensures { IsSkippedCall text.now (outcome_of result) }
 {
     let text = text_of(text)?;
@@ -103,7 +82,7 @@ pub fn refusal(alloc: Global, text: &[u8]) -> Result<String, CallError>
 }
 
 /// The numbers of the elements of a tree that one of the selectors of a list matches.
-pub fn select(
+fn select(
     alloc: Global,
     text: &[u8],
     tree: PassedTree<'_>,
@@ -136,7 +115,7 @@ fn read_page<'a>(
 }
 
 /// What is written of all that wins on each element of a tree.
-pub fn styles(
+fn styles(
     alloc: Global,
     buffer: &[u8],
     ends: &[usize],
@@ -165,7 +144,7 @@ fn match_lines(
 }
 
 /// The numbers of the rules that match each element of a tree.
-pub fn matches(
+fn matches(
     alloc: Global,
     buffer: &[u8],
     ends: &[usize],
@@ -212,20 +191,58 @@ pub fn match_selectors(
     lines(alloc, LineContent::Numbers, &selectors, &tree, most)
 }
 
-/// What wins for a name on each element of a tree.
-pub fn style(
+/// What is asked of texts, and of a tree beside them.
+#[derive(Clone, Copy, Debug, PartialEq)]
+pub enum PortQuestion {
+    /// The printed sheet.
+    Sheet,
+    /// The rules of the sheet.
+    Rules,
+    /// What is skipped of the buffer, which is one text.
+    Skipped,
+    /// The rules that match each element.
+    Matches,
+    /// What wins on each element.
+    Styles,
+    /// The elements that the list of selectors matches which the buffer is.
+    Selected,
+}
+
+/// What is asked by a number.
+fn question_of(asked: usize) -> Option<PortQuestion>
+    ensures { result ≡ question_of_number asked }
+{
+    match asked {
+        0 => Some(PortQuestion::Sheet),
+        1 => Some(PortQuestion::Rules),
+        2 => Some(PortQuestion::Skipped),
+        3 => Some(PortQuestion::Matches),
+        4 => Some(PortQuestion::Styles),
+        5 => Some(PortQuestion::Selected),
+        _ => None,
+    }
+}
+
+/// What is asked by a number of texts, and of a tree beside them. Another number is refused.
+pub fn ask(
     alloc: Global,
     buffer: &[u8],
     ends: &[usize],
     limit: usize,
+    asked: usize,
     tree: PassedTree<'_>,
-    name: &[u8],
     most: usize,
 ) -> Result<String, CallError>
-    ensures { IsStyleCall most buffer.now ends.now limit (passed_of tree.entry) name.now
+    ensures { IsPortCall (question_of_number asked) most buffer.now ends.now limit (passed_of tree.entry)
         (outcome_of result) }
 {
-    let name = text_of(name)?;
-    let (sheet, tree) = read_page(alloc, buffer, ends, limit, tree)?;
-    won_lines(alloc, WonContent::Named(name), &sheet.rules, &tree, most)
+    match question_of(asked) {
+        Some(PortQuestion::Sheet) => sheet(alloc, buffer, ends, limit),
+        Some(PortQuestion::Rules) => rules(alloc, buffer, ends, limit),
+        Some(PortQuestion::Skipped) => skipped(alloc, buffer),
+        Some(PortQuestion::Matches) => matches(alloc, buffer, ends, limit, tree, most),
+        Some(PortQuestion::Styles) => styles(alloc, buffer, ends, limit, tree, most),
+        Some(PortQuestion::Selected) => select(alloc, buffer, tree, most),
+        None => Err(CallError::Refused),
+    }
 }

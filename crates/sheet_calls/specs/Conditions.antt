@@ -28,8 +28,10 @@ use Rattle.css_conditions.specs.Media.{media}
 use Rattle.css_conditions.specs.Supports.{supports}
 use Rattle.css_conditions.specs.Devices.{device_says, has_type}
 use Rattle.css_sheet.specs.RuleSelectors.{selector_of}
+use Rattle.css_values.specs.Refused.{refuses}
 use Rattle.call_answers.specs.declared.answer.CallError.{CallError}
 use Rattle.sheet_calls.specs.declared.conditions.DeviceNumbers.{DeviceNumbers}
+use Rattle.sheet_calls.specs.Functions.{is_known_word}
 use Rattle.call_answers.specs.Outcomes.{truth_text}
 use Rattle.call_answers.specs.Calls.{FailsFor, HasTexts, HasBadEnds, IsBrokenUtf8}
 
@@ -159,20 +161,26 @@ IsMediaCall text numbers (Err failure) =
 abbrev pub is_custom : List ℕ → Bool
 is_custom name = starts_two hyphen hyphen name && not (is_end (drop 2 name))
 
--- A declaration is supported if it is one of a custom property, or if its property is known, whatever
--- the value, which is not empty.
+-- the table of values says that no browser takes the value of a property of this name
+abbrev pub is_refused : List ℕ → List ℕ → Bool
+is_refused name value = is_utf8 name && refuses name value
+
+-- A declaration is supported if it is one of a custom property, or if its property is known, and the value is
+-- not empty, nor one that no browser takes as far as the table of values says.
 abbrev pub is_known : List (List ℕ) → List ℕ → List ℕ → Bool
 is_known properties name value =
     is_custom name
     || not (is_end (past_gap value)) && list_any (λ property. spells property name) properties
+    && not (is_refused name value)
 
 -- the text is UTF-8, as every part of a sheet is, and a selector by the grammar of modern selectors
 abbrev pub is_selector : List ℕ → Bool
 is_selector text = is_utf8 text && is_some (selector_of text)
 
--- of functions only `selector` is known
+-- of functions `selector` of a selector that is read is known, and others by their words
 abbrev pub is_function : List ℕ → List ℕ → Bool
-is_function name arguments = spells (codes "selector") name && is_selector arguments
+is_function name arguments =
+    if spells (codes "selector") name then is_selector arguments else is_known_word name arguments
 
 -- whether a condition of `@supports` holds where these properties are known, or why there is no answer
 abbrev pub IsSupportsCall : List ℕ → List ℕ → List ℕ → Result (List ℕ) CallError → Type 0

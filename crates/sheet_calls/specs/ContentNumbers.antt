@@ -1,8 +1,7 @@
 -- The parts of a sheet as numbers: ten of each item in a style rule, of each rule where its block begins, and of
 -- each block where it ends.
-use Rattle.std.specs.Prelude.{◌≡◌, ℕ, ◌+◌, ◌-◌, true, List, [], ◌∷◌, length, Result, Ok, Err}
+use Rattle.std.specs.Prelude.{ℕ, ◌+◌, ◌-◌, true, List, [], ◌∷◌, length}
 use Rattle.std.specs.List.{flat_map}
-use Rattle.std.specs.Str.{IsUtf8}
 use Rattle.css_text.specs.AsciiBytes.{at_sign}
 use Rattle.css_text.specs.Bytes.{past_byte}
 use Rattle.css_syntax.specs.Contents.{at_rule_prelude}
@@ -10,8 +9,6 @@ use Rattle.css_syntax.specs.Parts.{Stated}
 use Rattle.css_syntax.specs.Tokens.{past_word}
 use Rattle.css_sheet.specs.SheetContents.{ContentText, contents_of, part_items}
 use Rattle.css_sheet.specs.SheetParts.{RuleKind, style_rule, group_rule, SheetPart, states, begins, ends, stands}
-use Rattle.call_answers.specs.declared.answer.CallError.{CallError}
-use Rattle.call_answers.specs.Calls.{FailsFor}
 use Rattle.call_answers.specs.ItemNumbers.{placed_row}
 use Rattle.call_answers.specs.Numbers.{offset}
 
@@ -59,7 +56,3 @@ content_numbers size found = part_numbers size found.from found.end found.part
 -- those of the parts of the sheet, in order
 abbrev pub contents_numbers : List ℕ → List ℕ
 contents_numbers text = flat_map (content_numbers (length text)) (contents_of text)
-
-abbrev pub IsContentsCall : List ℕ → Result (List ℕ) CallError → Type 0
-IsContentsCall text (Ok numbers) = IsUtf8 text × (numbers ≡ contents_numbers text)
-IsContentsCall text (Err failure) = FailsFor ⊥ (λ fault. ⊥) (¬ (IsUtf8 text)) failure

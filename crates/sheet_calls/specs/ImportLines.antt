@@ -1,14 +1,10 @@
 -- The `@import` rules of a sheet that are in force: of each a line of numbers, and its texts.
-use Rattle.std.specs.Prelude.{◌≡◌, ℕ, Bool, true, false, Result, Ok, Err}
+use Rattle.std.specs.Prelude.{ℕ, Bool, true, false}
 use Rattle.std.specs.Prelude.{List, [], ◌∷◌, ◌++◌, length, map, decimal}
 use Rattle.std.specs.List.{flat_map}
 use Rattle.std.specs.Option.{is_some, unwrap_or}
-use Rattle.std.specs.Str.{IsUtf8}
 use Rattle.css_sheet.specs.ImportRules.{ImportText, UrlText, quoted, bare}
 use Rattle.css_sheet.specs.ImportRules.{ImportLayer, unlayered, layered, layered_as}
-use Rattle.css_sheet.specs.Imports.{sheet_imports}
-use Rattle.call_answers.specs.declared.answer.CallError.{CallError}
-use Rattle.call_answers.specs.Calls.{FailsFor}
 use Rattle.call_answers.specs.Numbers.{number_if}
 use Rattle.call_answers.specs.PortTexts.{line, line_of}
 
@@ -54,9 +50,3 @@ import_texts one =
 -- its numbers on a line, and its texts on another
 abbrev pub import_lines : ImportText → List ℕ
 import_lines one = line_of (map decimal (import_numbers one)) ++ line (import_texts one)
-
--- those of the imports of the sheet that are in force, in order
-abbrev pub IsImportsCall : List ℕ → Result (List ℕ) CallError → Type 0
-IsImportsCall text (Ok bytes) =
-    IsUtf8 text × (bytes ≡ flat_map import_lines (sheet_imports text))
-IsImportsCall text (Err failure) = FailsFor ⊥ (λ fault. ⊥) (¬ (IsUtf8 text)) failure

@@ -1,9 +1,8 @@
 pub mod Conditions
+pub mod Functions
 pub mod NumberLines
 pub mod Values
 pub mod ImportLines
 pub mod ContentNumbers
-pub mod PrintedSheets
 pub mod Spellings
-pub mod Linting
 pub mod internal

@@ -1,5 +1,5 @@
 -- What is written of values as far as names go: computed values, shorthands, and what is inherited.
-use Rattle.std.specs.Prelude.{◌≡◌, ◌<◌, ◌≤◌, ◌⊎◌, ◌||◌, ℕ, Bool, true, false, List, length, take, drop, Option, None, Some, Result, Ok, Err}
+use Rattle.std.specs.Prelude.{◌≡◌, ◌<◌, ◌≤◌, ◌⊎◌, ◌||◌, ◌==◌, if◌then◌else◌, ℕ, Bool, true, false, List, length, take, drop, Option, None, Some, Result, Ok, Err}
 use Rattle.std.specs.Str.{IsUtf8}
 use Rattle.css_conditions.specs.declared.truth.Truth.{Truth}
 use Rattle.css_conditions.specs.declared.truth.Truth.TheVariants.{True, False}
@@ -13,6 +13,9 @@ use Rattle.css_values.specs.Validity.{is_valid}
 use Rattle.css_values.specs.Lines.{name_lines, properties_in, value_lines}
 use Rattle.css_values.specs.Names.{is_named_in, longhands_in, shorthands_in}
 use Rattle.call_answers.specs.declared.answer.CallError.{CallError}
+use Rattle.call_answers.specs.declared.answer.CallError.TheVariants.{Refused}
+use Rattle.sheet_calls.specs.declared.values.PropertyQuestion.{PropertyQuestion}
+use Rattle.sheet_calls.specs.declared.values.PropertyQuestion.TheVariants.{Longhands, Shorthands, Counterpart, IsInherited}
 use Rattle.call_answers.specs.Calls.{FailsFor, FailsWithin, HasTexts, HasBadEnds, IsBrokenUtf8}
 use Rattle.call_answers.specs.Outcomes.{truth_text}
 
@@ -79,3 +82,22 @@ IsInheritedCall names name (Ok word) =
     IsUtf8 name
     × (word ≡ truth_text (truth_of (starts_two hyphen hyphen name || is_named_in names name)))
 IsInheritedCall names name (Err failure) = FailsFor ⊥ (λ fault. ⊥) (¬ (IsUtf8 name)) failure
+
+-- What is asked of a property by a number: 0 is its longhands, 1 its shorthands, 2 its logical or physical counterpart,
+-- and 3 whether it is inherited.
+abbrev pub question_of : (asked : ℕ) → Option PropertyQuestion
+question_of asked =
+    if asked == 0 then Some Longhands
+    else (if asked == 1 then Some Shorthands
+    else (if asked == 2 then Some Counterpart
+    else (if asked == 3 then Some IsInherited
+    else None)))
+
+-- what is asked of a property, by these tables; where nothing is, the call is refused
+abbrev pub IsPropertyCall :
+    (shorthands logical inherited : List ℕ) → Option PropertyQuestion → List ℕ → Result (List ℕ) CallError → Type 0
+IsPropertyCall shorthands logical inherited None name outcome = outcome ≡ Err Refused
+IsPropertyCall shorthands logical inherited (Some Longhands) name outcome = IsLonghandsCall shorthands name outcome
+IsPropertyCall shorthands logical inherited (Some Shorthands) name outcome = IsShorthandsCall shorthands name outcome
+IsPropertyCall shorthands logical inherited (Some Counterpart) name outcome = IsLonghandsCall logical name outcome
+IsPropertyCall shorthands logical inherited (Some IsInherited) name outcome = IsInheritedCall inherited name outcome

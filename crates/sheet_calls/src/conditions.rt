@@ -5,6 +5,7 @@ ghost use Rattle.std.specs.List.{list_any};
 ghost use Rattle.std.specs.Option.{is_some};
 ghost use Rattle.css_sheet.specs.RuleSelectors.{selector_of};
 ghost use Rattle.css_syntax.specs.Tokens.{spells};
+ghost use Rattle.sheet_calls.specs.Conditions.{is_refused as is_refused_of};
 ghost use Rattle.sheet_calls.specs.Conditions.{medium_of, pointer_of, device_of, gamut_of, update_of};
 ghost use Rattle.sheet_calls.specs.Conditions.{scripting_of, display_of, contrast_of, choices_of};
 ghost use Rattle.sheet_calls.specs.Conditions.{is_custom as is_custom_of};
@@ -12,6 +13,7 @@ ghost use Rattle.sheet_calls.specs.Conditions.{is_selector as is_selector_of};
 ghost use Rattle.sheet_calls.specs.Conditions.{IsMediaCall, IsSupportsCall};
 ghost use Rattle.call_answers.specs.Outcomes.{truth_outcome};
 
+use crate::functions::{is_known_word, is_listed};
 use call_answers::answer::CallError;
 use call_answers::texts::{text_of, texts_of};
 use css_conditions::{
@@ -20,6 +22,7 @@ use css_conditions::{
 };
 use css_sheet::read_supported;
 use css_syntax::tokens::{past_gap, spells};
+use css_values::RefusedValues;
 use std::alloc::{AllocError, Global};
 
 /// A device, as the caller of a function passes it.
@@ -261,11 +264,14 @@ pub fn media(text: &[u8], numbers: &DeviceNumbers) -> Result<Truth, CallError>
     Ok(media_says(text_of(text)?, &device))
 }
 
-/// What is supported: properties of these names, custom properties, and selectors that can be read.
+/// What is supported: properties of these names, but for some values, custom properties, and selectors that can be
+/// read.
 #[derive(Drop)]
 struct Known<'a> {
     /// The names of properties, in lower case.
     properties: &'a [&'a str],
+    /// The values that no browser takes.
+    values: &'a RefusedValues,
     /// Where a selector is read.
     alloc: Global,
 }
@@ -275,20 +281,6 @@ fn is_custom(name: &[u8]) -> bool
     ensures { result ≡ is_custom_of name.now }
 {
     matches!(name, [b'-', b'-', _, ..])
-}
-
-/// Whether one of the names is this one, in any case and with any escapes.
-fn is_listed(names: &[&str], name: &[u8]) -> bool
-    ensures { result ≡ list_any (λ one. spells one name.now) (map (λ one. one.now) names.now) }
-{
-    let mut left = names;
-    'names: while let [one, others @ ..] = left {
-        if spells(one.as_bytes(), name) {
-            return true;
-        }
-        left = others;
-    }
-    false
 }
 
 /// Whether the text is read as a selector. It fails if an allocation fails.
@@ -313,6 +305,17 @@ fn is_selector(alloc: Global, bytes: &[u8]) -> Result<bool, AllocError>
     }
 }
 
+/// Whether no browser takes the value of a property, as far as the table of values says.
+#[tactic(auto, using(crate::proofs::Utf8Tests::utf8_true, crate::proofs::Utf8Tests::utf8_false))]
+fn is_refused(values: &RefusedValues, name: &[u8], value: &[u8]) -> bool
+    ensures { result ≡ is_refused_of name.now value.now }
+{
+    match std::str::from_utf8(name) {
+        Ok(name) => values.refuses(name, value),
+        Err(_) => false,
+    }
+}
+
 impl<'a> Supported for Known<'a> {
     ghost use Rattle.std.specs.Prelude.{map};
     ghost use Rattle.sheet_calls.specs.Conditions.{is_known, is_function};
@@ -322,14 +325,17 @@ impl<'a> Supported for Known<'a> {
     ghost function = { λ it. is_function };
 
     fn knows(&self, name: &[u8], value: &[u8]) -> bool {
-        is_custom(name) || (!past_gap(value).is_empty() && is_listed(self.properties, name))
+        is_custom(name)
+            || (!past_gap(value).is_empty()
+                && is_listed(self.properties, name)
+                && !is_refused(self.values, name, value))
     }
 
     fn function(&self, name: &[u8], arguments: &[u8]) -> Result<bool, AllocError> {
-        if !spells(b"selector", name) {
-            return Ok(false);
+        if spells(b"selector", name) {
+            return is_selector(self.alloc, arguments);
         }
-        is_selector(self.alloc, arguments)
+        Ok(is_known_word(name, arguments))
     }
 }
 
@@ -344,8 +350,10 @@ pub fn supports(
 {
     let text = text_of(text)?;
     let properties = texts_of(alloc, properties, ends)?;
+    let values = RefusedValues::new(alloc)?;
     let known = Known {
         properties: &properties,
+        values: &values,
         alloc,
     };
     Ok(truth_of(supports_holds(text, &known)?))

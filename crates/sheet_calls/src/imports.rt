@@ -4,14 +4,12 @@ ghost use Rattle.std.specs.Prelude.{◌≡◌, ◌++◌, [], OnOk, IfOk, map, op
 ghost use Rattle.std.specs.List.{flat_map};
 ghost use Rattle.std.specs.Option.{is_some, unwrap_or};
 ghost use Rattle.css_sheet.specs.ImportViews.{import_of, layer_of, url_of};
+ghost use Rattle.css_sheet.specs.Imports.{sheet_imports as sheet_imports_of};
 ghost use Rattle.sheet_calls.specs.ImportLines.{is_string, url_text as url_text_of};
 ghost use Rattle.sheet_calls.specs.ImportLines.{layer_number, layer_name};
-ghost use Rattle.sheet_calls.specs.ImportLines.{import_lines as import_lines_of, IsImportsCall};
+ghost use Rattle.sheet_calls.specs.ImportLines.{import_lines as import_lines_of};
 ghost use Rattle.call_answers.specs.Numbers.{number_if};
-ghost use Rattle.call_answers.specs.Outcomes.{outcome_of};
 
-use call_answers::answer::CallError;
-use call_answers::texts::text_of;
 use css_sheet::{Import, ImportLayer, ImportUrl, read_imports};
 use std::alloc::{AllocError, Global};
 use std::fmt::Write as _;
@@ -79,10 +77,9 @@ fn import_lines(alloc: Global, imports: &[Import<'_>]) -> Result<String, AllocEr
 }
 
 /// The numbers and the texts of the imports of a sheet that are in force.
-pub fn imports(alloc: Global, text: &[u8]) -> Result<String, CallError>
-    ensures { IsImportsCall text.now (outcome_of result) }
+pub fn sheet_imports(alloc: Global, text: &str) -> Result<String, AllocError>
+    ensures { IfOk result (λ lines. string_bytes lines ≡ flat_map import_lines_of (sheet_imports_of text.now)) }
 {
-    let text = text_of(text)?;
     let imports = read_imports(alloc, text)?;
-    Ok(import_lines(alloc, imports.as_slice())?)
+    import_lines(alloc, imports.as_slice())
 }

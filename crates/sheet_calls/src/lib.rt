@@ -3,9 +3,8 @@
 #![tactic(auto)]
 
 pub mod conditions;
+pub mod functions;
 pub mod imports;
-pub mod lint;
-pub mod printing;
 pub mod sheet_contents;
 pub mod sheets;
 pub mod spellings;

@@ -7,12 +7,9 @@ ghost use Rattle.css_sheet.specs.ContentViews.{content_of, kind_of};
 ghost use Rattle.sheet_calls.specs.ContentNumbers.{style_row as style_row_of, end_row as end_row_of};
 ghost use Rattle.sheet_calls.specs.ContentNumbers.{group_row as group_row_of, name_length as name_length_of};
 ghost use Rattle.sheet_calls.specs.ContentNumbers.{begun_row as begun_row_of, content_numbers};
-ghost use Rattle.sheet_calls.specs.ContentNumbers.{contents_numbers, IsContentsCall};
-ghost use Rattle.call_answers.specs.Outcomes.{numbers_outcome};
+ghost use Rattle.sheet_calls.specs.ContentNumbers.{contents_numbers as contents_numbers_of};
 
-use call_answers::answer::CallError;
 use call_answers::items::{count_between, item_numbers, offset_of};
-use call_answers::texts::text_of;
 use css_sheet::{Part, PlacedPart, RuleKind, read_contents};
 use css_syntax::Prelude;
 use css_syntax::places::at_rule_prelude;
@@ -142,10 +139,9 @@ fn contents_of(
 }
 
 /// The numbers of the parts of a sheet.
-pub fn sheet_contents(alloc: Global, text: &[u8]) -> Result<Vec<usize>, CallError>
-    ensures { IsContentsCall text.now (numbers_outcome result) }
+pub fn contents_numbers(alloc: Global, text: &str) -> Result<Vec<usize>, AllocError>
+    ensures { IfOk result (λ out. out.items ≡ contents_numbers_of text.now) }
 {
-    let text = text_of(text)?;
     let parts = read_contents(alloc, text)?;
-    Ok(contents_of(alloc, parts.as_slice(), text.len())?)
+    contents_of(alloc, parts.as_slice(), text.len())
 }

@@ -9,7 +9,8 @@ ghost use Rattle.css_values.specs.Views.{stated_of};
 ghost use Rattle.call_answers.specs.Calls.{FailsFor};
 ghost use Rattle.call_answers.specs.Outcomes.{outcome_of, truth_outcome};
 ghost use Rattle.sheet_calls.specs.Values.{AreLinesOf, AreValues, FailsPairs, IsInheritedCall, IsLonghandsCall, IsResolveCall};
-ghost use Rattle.sheet_calls.specs.Values.{IsShorthandsCall, IsValidCall, truth_of as truth_for};
+ghost use Rattle.sheet_calls.specs.Values.{IsPropertyCall, IsShorthandsCall, IsValidCall, truth_of as truth_for};
+ghost use Rattle.sheet_calls.specs.Values.{question_of as question_of_number};
 
 use call_answers::answer::{CallError, check_length};
 use call_answers::texts::{text_of, texts_of};
@@ -118,36 +119,51 @@ pub fn is_valid_value(alloc: Global, value: &[u8]) -> Result<Truth, CallError>
     Ok(truth(is_valid(alloc, text)?))
 }
 
-/// The longhands that a shorthand sets.
-pub fn longhands(alloc: Global, name: &[u8]) -> Result<String, CallError>
-    ensures { IsLonghandsCall SHORTHANDS.now name.now (outcome_of result) }
+/// What is asked of a property.
+#[derive(Clone, Copy, Debug, PartialEq)]
+pub enum PropertyQuestion {
+    /// The longhands that a shorthand sets.
+    Longhands,
+    /// The shorthands that set a longhand.
+    Shorthands,
+    /// The other name of a longhand that has a logical and a physical one, where text is horizontal, from left to
+    /// right.
+    Counterpart,
+    /// Whether it is inherited.
+    IsInherited,
+}
+
+/// What is asked by a number.
+fn question_of(asked: usize) -> Option<PropertyQuestion>
+    ensures { result ≡ question_of_number asked }
+{
+    match asked {
+        0 => Some(PropertyQuestion::Longhands),
+        1 => Some(PropertyQuestion::Shorthands),
+        2 => Some(PropertyQuestion::Counterpart),
+        3 => Some(PropertyQuestion::IsInherited),
+        _ => None,
+    }
+}
+
+/// What a name stands for in a table.
+fn names_in(alloc: Global, table: &str, name: &[u8]) -> Result<String, CallError>
+    ensures { IsLonghandsCall table.now name.now (outcome_of result) }
 {
     let text = text_of(name)?;
-    match longhands_in(SHORTHANDS, text) {
+    match longhands_in(table, text) {
         None => Err(CallError::Refused),
         Some(names) => Ok(names.to_string(alloc)?),
     }
 }
 
 /// The shorthands that set a longhand, each with a newline after it.
-pub fn shorthands(alloc: Global, name: &[u8]) -> Result<String, CallError>
+fn shorthands(alloc: Global, name: &[u8]) -> Result<String, CallError>
     ensures { IsShorthandsCall SHORTHANDS.now name.now (outcome_of result) }
 {
     let text = text_of(name)?;
     let found = shorthands_in(alloc, SHORTHANDS, text)?;
     Ok(name_lines(alloc, &found)?)
-}
-
-/// The other name of a longhand that has a logical and a physical one, where text is horizontal, from left to
-/// right.
-pub fn counterpart(alloc: Global, name: &[u8]) -> Result<String, CallError>
-    ensures { IsLonghandsCall LOGICAL.now name.now (outcome_of result) }
-{
-    let text = text_of(name)?;
-    match longhands_in(LOGICAL, text) {
-        None => Err(CallError::Refused),
-        Some(other) => Ok(other.to_string(alloc)?),
-    }
 }
 
 /// Whether the name begins with two hyphens, as that of each custom property does.
@@ -167,10 +183,29 @@ fn is_handed_down(name: &str) -> bool
     is_named_in(INHERITED, name)
 }
 
-/// Whether a property is inherited.
-pub fn is_inherited(name: &[u8]) -> Result<Truth, CallError>
-    ensures { IsInheritedCall INHERITED.now name.now (truth_outcome result) }
+/// Whether a property is inherited, as a word.
+fn inherited(alloc: Global, name: &[u8]) -> Result<String, CallError>
+    ensures { IsInheritedCall INHERITED.now name.now (outcome_of result) }
 {
     let text = text_of(name)?;
-    Ok(truth(is_handed_down(text)))
+    let word = if is_handed_down(text) {
+        "true"
+    } else {
+        "false"
+    };
+    Ok(word.to_string(alloc)?)
+}
+
+/// What is asked of a property by a number. Another number is refused.
+pub fn property(alloc: Global, name: &[u8], asked: usize) -> Result<String, CallError>
+    ensures { IsPropertyCall SHORTHANDS.now LOGICAL.now INHERITED.now (question_of_number asked) name.now
+        (outcome_of result) }
+{
+    match question_of(asked) {
+        Some(PropertyQuestion::Longhands) => names_in(alloc, SHORTHANDS, name),
+        Some(PropertyQuestion::Shorthands) => shorthands(alloc, name),
+        Some(PropertyQuestion::Counterpart) => names_in(alloc, LOGICAL, name),
+        Some(PropertyQuestion::IsInherited) => inherited(alloc, name),
+        None => Err(CallError::Refused),
+    }
 }

@@ -1,5 +1,5 @@
 -- Keys of selectors, filed by a number of each.
-use Rattle.std.specs.Prelude.{◌≡◌, ℕ, ◌+◌, ◌-◌, ◌*◌, ◌/◌, ◌%◌, ◌^◌, ◌<◌, ◌↔◌, ◌==◌, Bool, true, false, List, [], ◌∷◌, ◌++◌, map, length, take, Option, None, Some, Contains, IsTrue, filter}
+use Rattle.std.specs.Prelude.{◌≡◌, ℕ, ◌+◌, ◌-◌, ◌*◌, ◌/◌, ◌%◌, ◌^◌, ◌<◌, ◌↔◌, ◌⊎◌, ◌==◌, Bool, true, false, List, [], ◌∷◌, ◌++◌, map, length, take, Option, None, Some, Contains, IsTrue, filter}
 use Rattle.std.specs.List.{slice_get, flat_map, list_any}
 use Rattle.std.specs.Global.{Vec}
 use Rattle.css_selector_text.specs.AttributeTests.{is_satisfied}
@@ -88,6 +88,13 @@ found_by_any entries keys = flat_map (found_by entries) keys
 abbrev pub AreWords : List ℕ → List (List ℕ) → Type 0
 AreWords value words = (text : List ℕ)
     → IsTrue (is_satisfied has_word false text value) ↔ Contains words text
+
+-- these are the first words of a value, and the others are in the rest, if more may follow
+abbrev pub AreFirstWords : List ℕ → List (List ℕ) → Option (List ℕ) → Type 0
+AreFirstWords value words None = AreWords value words
+AreFirstWords value words (Some rest) = (text : List ℕ)
+    → IsTrue (is_satisfied has_word false text value)
+    ↔ (Contains words text ⊎ IsTrue (is_satisfied has_word false text rest))
 
 -- these are the words of a value, or there is none
 abbrev pub AreClasses : Option (List ℕ) → List (List ℕ) → Type 0

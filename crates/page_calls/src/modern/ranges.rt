@@ -87,7 +87,7 @@ fn is_matched(selectors: &[Selector<'_>], node: &NumberedNode<'_, '_, '_>) -> bo
     ensures { IsTrue result ↔ ((index : ℕ) × MatchesAt page_document node.now selectors.now index) }
 {
     for selector in selectors {
-        if selector.matches(node) {
+        if selector.matches_counted(node, &mut Tests::new()) {
             return true;
         }
     }

@@ -1,66 +1,52 @@
-use Rattle.std.proofs.Common.{◌≡◌, ◌+◌, ◌-◌, length, map, [], ◌∷◌, ap, ◌∙◌, arith, get_or, set}
-use Rattle.std.specs.Result.{OnErr}
-use Rattle.std.specs.Prelude.{Result, Ok, Err}
-use Rattle.std.proofs.Math.Seq.{map-set_same}
-use Rattle.std.proofs.lemmas.List.{length-map, map-append}
-use Rattle.css_elements.specs.Rows.{row_of, row_with, attribute_of, nobody, with_attribute}
-use Rattle.css_elements.proofs.Growing.{knows_kept, rows_changed}
+use Rattle.std.proofs.Common.{◌≡◌, ◌+◌, ◌<◌, length, [], ◌∷◌, ap, ◌∙◌, arith}
+use Rattle.std.proofs.lemmas.List.{length-append}
+use Rattle.css_elements.specs.Rows.{row_of, row_with, with_attribute}
+use Rattle.css_elements.proofs.Growing.{knows_kept}
+use Rattle.css_elements.proofs.Ranges.{attributes_with, ranges_longer, rows_with}
 use Rattle.css_elements.proofs.tree.Tree.set_attribute.Goals as goal
-
-on_err : {T E : Type 0} (result : Result T E) {P : Type 0} → P → OnErr result P
-on_err (Ok value) p = tt
-on_err (Err fault) p = p
-
-pub invariant_of-self : goal.invariant_of-self
-invariant_of-self c =
-    let here = c.index_mut.ensures.value in
-    knows_kept c.self.inside.entries.items c.self.inside.last_root c.self.invariant c.in-Some.last _
-    c.index_mut.result.now (ap (λ e. e.parent) here) (ap (λ e. e.last_child) here)
-
-pub returns-in_err-push-clause-err : goal.returns-in_err-push-clause-err
-returns-in_err-push-clause-err c =
-    let here = c.index_mut.ensures.value in
-    on_err c.from_residual.result
-    (map-set_same row_of c.self.inside.entries.items c.in-Some.last _ c.index_mut.result.now
-    (ap (λ attributes. record {
-      name = c.index_mut.result.now.name.now;
-      attributes = map attribute_of attributes;
-      parent = c.index_mut.result.now.parent;
-      previous = c.index_mut.result.now.previous;
-      states = c.index_mut.result.now.states;
-    }) c.in_err-push.ensures.items ∙ ap row_of here) ∙ c.self.view_is)
 
 pub invariant_of-self-2 : goal.invariant_of-self-2
 invariant_of-self-2 c =
     let here = c.index_mut.ensures.value in
-    knows_kept c.self.inside.entries.items c.self.inside.last_root c.self.invariant c.in-Some.last _
-    c.index_mut.result.now (ap (λ e. e.parent) here) (ap (λ e. e.last_child) here)
+    let all = c.self.inside.attributes.items in
+    let last : c.in-Some.last + 1 ≡ length c.self.inside.entries.items =
+    omega (arith, c.in-Some.ensures, c.len.ensures, c.self.inside.entries.ok.0) in
+    let count : length c.push.new.self.items ≡ length all + 1 =
+    ap length c.in_ok-push.ensures.items ∙ length-append all ((c.args.name, c.args.value) ∷ []) in
+    let end = c.len-2.ensures ∙ c.push.new.self.ok.0 in (
+      knows_kept c.self.inside.entries.items c.self.inside.last_root c.self.invariant.0 c.in-Some.last
+          _ c.index_mut.result.now (ap (λ e. e.parent) here) (ap (λ e. e.last_child) here),
+      ranges_longer c.self.inside.entries.items (length all) c.self.invariant.1
+          (length c.push.new.self.items) c.in-Some.last _ c.index_mut.result.now count last
+          (ap (λ e. e.first) here) end,
+    )
 
 pub returns-clause-ok : goal.returns-clause-ok
 returns-clause-ok c =
     let here = c.index_mut.ensures.value in
-    let last : c.in-Some.last + 1 ≡ length c.self.inside.entries.items =
+    let all = c.self.inside.attributes.items in
+    let more = c.push.new.self.items in
+    let entries = c.self.inside.entries.items in
+    let last : c.in-Some.last + 1 ≡ length entries =
     omega (arith, c.in-Some.ensures, c.len.ensures, c.self.inside.entries.ok.0) in
-    let at : c.in-Some.last ≡ length (map row_of c.self.inside.entries.items) - 1 =
-    omega (arith, last, length-map c.self.inside.entries.items row_of) in
-    rows_changed c.self.inside.entries.items c.in-Some.last _ c.index_mut.result.now
-    (λ row. row_with row c.args.name.now c.args.value.now) (omega (arith, last))
+    let count : length more ≡ length all + 1 =
+    ap length c.in_ok-push.ensures.items ∙ length-append all ((c.args.name, c.args.value) ∷ []) in
+    let end : c.len-2.result ≡ length all + 1 = c.len-2.ensures ∙ c.push.new.self.ok.0 ∙ count in
+    let e = c.index_mut.result.now in
+    let less : c.in-Some.last < length entries = omega (arith, last) in
+    let range = c.self.invariant.1.within c.in-Some.last e less in
+    let first = ap (λ x. x.first) here in
+    let old = ap (λ x. x.end) here in
+    let full = c.self.invariant.1.last c.in-Some.last e last in
+    rows_with all more (c.args.name, c.args.value) entries c.self.invariant.1
+    c.in_ok-push.ensures.items c.in-Some.last _ e last
     (ap (λ attributes. record {
-      name = c.index_mut.result.now.name.now;
-      attributes = map attribute_of attributes;
-      parent = c.index_mut.result.now.parent;
-      previous = c.index_mut.result.now.previous;
-      states = c.index_mut.result.now.states;
-    }) c.in_ok-push.ensures.items
-    ∙ ap (λ attributes. record {
-      name = c.index_mut.result.now.name.now;
+      name = e.name.now;
       attributes = attributes;
-      parent = c.index_mut.result.now.parent;
-      previous = c.index_mut.result.now.previous;
-      states = c.index_mut.result.now.states;
-    }) (map-append attribute_of c.index_mut.result.now.attributes.items
-    ((c.args.name, c.args.value) ∷ []))
-    ∙ ap (λ e. row_with (row_of e) c.args.name.now c.args.value.now) here)
-    ∙ ap (λ k. set (map row_of c.self.inside.entries.items) k (row_with
-    (get_or (map row_of c.self.inside.entries.items) k nobody) c.args.name.now c.args.value.now)) at
+      parent = e.parent;
+      previous = e.previous;
+      states = e.states;
+    }) (attributes_with all more (c.args.name, c.args.value) e.first e.end c.len-2.result
+    c.in_ok-push.ensures.items (omega (arith, range.0, first, old)) (old ∙ full) end)
+    ∙ ap (λ x. row_with (row_of all x) c.args.name.now c.args.value.now) here)
     ∙ ap (λ rows. with_attribute rows c.args.name.now c.args.value.now) c.self.view_is

@@ -1,9 +1,24 @@
-use Rattle.std.proofs.Common.{◌∙◌, ap, subst}
+use Rattle.std.proofs.Common.{◌≡◌, eqb-true, vec_len, arith, None, Some, sym, ◌∙◌, ap, subst}
+use Rattle.std.specs.List.{Contains}
 use Rattle.css_index.specs.internal.Added.{AreAdded}
 use Rattle.css_index.specs.internal.Filed.{entries_of, found_by_any}
 use Rattle.css_index.proofs.AddedLemmas.{added_alone}
+use Rattle.css_index.proofs.FoundLemmas.{selector_past}
+use Rattle.css_index.proofs.KeptLemmas.{contains_none}
 use Rattle.css_index.proofs.KeyedLemmas.{keyed_found}
 use Rattle.css_index.proofs.selector_index.SelectorIndex.gather.Goals as goal
+
+pub returns-then-is_empty-clause-found : goal.returns-then-is_empty-clause-found
+returns-then-is_empty-clause-found g c = λ index.
+    let rules = c.self.inside.rules.items in
+    let count = eqb-true (vec_len c.self.inside.rules) 0
+    (sym c.is_empty.ensures ∙ c.if-is_empty.true) in
+    let all = c.self.inside.rules.ok.0 in
+    let past = selector_past (λ rule. rule.selector.now) rules c.args.self.now index c.self.view_is
+    (omega (arith, count, all)) in (
+      λ h. absurd (contains_none index (subst (λ xs. Contains xs index) c.clear.ensures.items h)),
+      λ h. (let none : None ≡ Some h.0.0 = sym past ∙ h.0.1 in absurd (cc)),
+    )
 
 pub returns-clause-found : goal.returns-clause-found
 returns-clause-found g c =

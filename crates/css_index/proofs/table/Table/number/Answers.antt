@@ -1,5 +1,4 @@
 use Rattle.std.proofs.Common.{rules, ◌≡◌, [], arith, length, sym, ap, ◌∙◌, subst}
-use Rattle.std.specs.List.{Contains}
 use Rattle.std.proofs.lemmas.List.{length-map}
 use Rattle.css_selectors.specs.KeyViews.{key_of}
 use Rattle.css_index.specs.internal.Added.{AreAdded, KeepsEach}

@@ -1,9 +1,10 @@
-use Rattle.std.proofs.Common.{◌≡◌, ◌<◌, ◌∙◌, length, map, sym, ap, subst}
+use Rattle.std.proofs.Common.{List, ℕ, ◌≡◌, ◌<◌, ◌∙◌, length, map, sym, ap, subst}
 use Rattle.std.specs.List.{All}
 use Rattle.css_matching.specs.ListTrees.{spot}
 use Rattle.css_index.specs.Found.{AreMatches}
+use Rattle.css_index.specs.Tested.{AreTried}
 use Rattle.css_tree.specs.Pages.{page_document}
-use Rattle.css_tree.specs.Walks.{IsOpenAt}
+use Rattle.css_tree.specs.Reports.{reported_of}
 use Rattle.css_styles.specs.Contenders.{contenders}
 use Rattle.css_styles.specs.StyleViews.{StylesText, names_of, own_of}
 use Rattle.css_styles.specs.Winners.{AreWinners}
@@ -15,19 +16,18 @@ use Rattle.css_styles.proofs.WinningLemmas.{are-winners}
 use Rattle.css_styles.proofs.styles.Styles.winners_named.Goals as goal
 
 pub matching-requires-clause-opened : goal.matching-requires-clause-opened
-matching-requires-clause-opened c =
-    subst (λ v. IsOpenAt c.args.page.now v.walk v.place) (sym c.self.view_is) c.requires.opened
+matching-requires-clause-opened c = c.self.invariant.1
 
 pub gather-requires : goal.gather-requires
 gather-requires c =
     subst (All (λ index. index < length c.self.inside.rules.now.rules)) (sym c.deref.ensures.value)
-    (found-within _ _ _ _ _ c.self.invariant c.in_ok-matching.ensures.matches)
+    (found-within _ _ _ _ _ c.self.invariant.0 c.in_ok-matching.ensures.matches)
 
 pub returns-clause-winners : goal.returns-clause-winners
 returns-clause-winners c =
     let own = own_of c.args.own in
     let asked = names_of c.args.asked.now in
-    let node = spot c.args.page.now c.args.element in
+    let node = spot c.self.inside.page.now c.args.element in
     let indices = c.deref.result.now in
     let found =
     subst (AreMatches page_document node c.self.inside.walk.walk.selectors) (sym c.deref.ensures.value)
@@ -38,11 +38,17 @@ returns-clause-winners c =
     then-ok c.find_asked.result
     (λ best. (
       indices,
-      subst (λ (v : StylesText). AreMatches page_document node v.walk.selectors indices) c.self.view_is found,
+      subst (λ (v : StylesText). AreMatches page_document (spot v.page c.args.element) v.walk.selectors indices)
+          c.self.view_is found,
       subst (AreWinners (contenders c.args.self.now.rules indices own) asked)
           (sym (best ∙ ap (λ cs. map (best_named cs) asked) whole))
           (are-winners (contenders c.args.self.now.rules indices own) asked),
     )) c.find_asked.ensures.winners
 
-pub returns-clause-opened : goal.returns-clause-opened
-returns-clause-opened c = c.in_ok-matching.ensures.opened
+pub returns-clause-tests : goal.returns-clause-tests
+returns-clause-tests c =
+    then-ok c.find_asked.result
+    (λ found. subst (λ (v : StylesText). (tried : List ℕ)
+    × AreTried page_document (spot v.page c.args.element) (reported_of (spot v.page c.args.element))
+    c.matching.new.self.walk tried c.args.tests.now c.matching.new.tests)
+    c.self.view_is c.in_ok-matching.ensures.tests) c.find_asked.ensures.winners

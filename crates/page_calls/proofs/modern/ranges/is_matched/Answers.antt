@@ -30,8 +30,8 @@ loop-selector-preserved c = λ index within m.
       | inl less ↦ c.loop-selector.invariant index less m
       | inr same ↦
           (let is : m.0 ≡ selector = some_same (sym m.1 ∙ (ap (slice_get selectors) same ∙ there)) in
-          let yes = c.matches.ensures.1 (subst (λ s. Matches page_document s c.args.node.now) is m.2) in
-          let no = c.if-matches.false in
+          let yes = c.matches_counted.ensures.answer.1 (subst (λ s. Matches page_document s c.args.node.now) is m.2) in
+          let no = c.if-matches_counted.false in
           cc)
     ]
 

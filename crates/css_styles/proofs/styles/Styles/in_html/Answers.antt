@@ -1,0 +1,18 @@
+use Rattle.std.proofs.Common.{◌∙◌, length, ap}
+use Rattle.std.proofs.lemmas.List.{length-map, map-id}
+use Rattle.css_sheet.specs.SheetOrder.{SheetRuleText}
+use Rattle.css_tree.specs.Html.{html_selector}
+use Rattle.css_styles.proofs.styles.Styles.in_html.Goals as goal
+
+pub with_walk-requires-clause-selectors : goal.with_walk-requires-clause-selectors
+with_walk-requires-clause-selectors c =
+    ap length (c.in_ok-walk.ensures.selectors ∙ map-id c.args.selectors.now ∙ c.requires.marked.1)
+    ∙ length-map c.args.rules.now.rules (λ (rule : SheetRuleText). html_selector c.requires.marked.0 rule.selector)
+
+pub with_walk-requires-clause-opened : goal.with_walk-requires-clause-opened
+with_walk-requires-clause-opened c = c.in_ok-walk.ensures.opened c.args.page.now
+
+pub returns-clause-selectors : goal.returns-clause-selectors
+returns-clause-selectors c =
+    ap (λ v. v.walk.selectors) c.with_walk.ensures ∙ c.in_ok-walk.ensures.selectors
+    ∙ map-id c.args.selectors.now

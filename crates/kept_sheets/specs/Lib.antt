@@ -1,0 +1,4 @@
+pub mod Handle
+pub mod Kept
+pub mod SheetCalls
+pub mod Sheets

@@ -1,0 +1,11 @@
+pub mod CutTokens
+pub mod CutValues
+pub mod CutRules
+pub mod DeclarationReach
+pub mod CutDeclarations
+pub mod CutBlocks
+pub mod CutParts
+pub mod CutStyles
+pub mod CutWhole
+pub mod CutFolds
+pub mod FirstImports
