@@ -4,6 +4,7 @@ use Rattle.std.specs.List.{flat_map}
 use Rattle.std.specs.Str.{IsUtf8}
 use Rattle.css_syntax.specs.DeclarationLists.{items}
 use Rattle.css_syntax.specs.Printing.{printed_part}
+use Rattle.clean_values.specs.Urls.{urls_of, urls_text}
 use Rattle.css_clean.specs.Policies.{are_safe}
 use Rattle.css_clean.specs.Cleaning.{DroppedText, cleaned, kept, read_of, dropped_of}
 use Rattle.css_clean.specs.Selectors.{SheetPolicyText}
@@ -19,7 +20,7 @@ use Rattle.clean_calls.specs.Passed.{Passed, HasPolicy, IsNoPolicy}
 use Rattle.clean_calls.specs.declared.asked.Form.{Form}
 use Rattle.clean_calls.specs.declared.asked.Form.TheVariants.{Sheet, Style}
 use Rattle.clean_calls.specs.declared.asked.Asked.{Asked}
-use Rattle.clean_calls.specs.declared.asked.Asked.TheVariants.{Clean, IsClean, Mail, Comment}
+use Rattle.clean_calls.specs.declared.asked.Asked.TheVariants.{Clean, IsClean, Mail, Comment, Urls}
 
 -- ---- what is asked
 
@@ -30,7 +31,7 @@ form_of number =
     else (if number == 1 then Some Style
     else None)
 
--- what a number asks for: to clean a text of this form, whether one is clean, or the lists of a policy
+-- what a number asks for: to clean a text of this form, whether one is clean, the lists of a policy, or the urls of a text
 abbrev pub asked_of : ℕ → Option Asked
 asked_of number =
     if number == 0 then Some (Clean Sheet)
@@ -39,7 +40,8 @@ asked_of number =
     else (if number == 3 then Some (IsClean Style)
     else (if number == 4 then Some Mail
     else (if number == 5 then Some Comment
-    else None)))))
+    else (if number == 6 then Some Urls
+    else None))))))
 
 -- ---- failures
 
@@ -91,6 +93,11 @@ abbrev pub AreLines : Result (List ℕ) CallError → Type 0
 AreLines (Ok lines) = Unit {0}
 AreLines (Err failure) = FailsFor ⊥ (λ fault. ⊥) ⊥ failure
 
+-- the urls of a text, in order, with a byte 0 after each; a text that is none has no answer
+abbrev pub AreUrls : (text : List ℕ) → Result (List ℕ) CallError → Type 0
+AreUrls text (Ok bytes) = IsUtf8 text × (bytes ≡ urls_text (urls_of text))
+AreUrls text (Err failure) = FailsFor ⊥ (λ fault. ⊥) (¬ (IsUtf8 text)) failure
+
 -- What is answered to what is asked. Which names the lists have is not said.
 abbrev pub IsCleanCall : Option Asked → (text : List ℕ) → Passed → Result (List ℕ) CallError → Type 0
 IsCleanCall None text passed outcome = outcome ≡ Err Refused
@@ -98,6 +105,7 @@ IsCleanCall (Some (Clean form)) text passed outcome = IsKeptCall form text passe
 IsCleanCall (Some (IsClean form)) text passed outcome = IsToldCall form text passed outcome
 IsCleanCall (Some Mail) text passed outcome = AreLines outcome
 IsCleanCall (Some Comment) text passed outcome = AreLines outcome
+IsCleanCall (Some Urls) text passed outcome = AreUrls text outcome
 
 -- ---- what is dropped
 
@@ -117,6 +125,7 @@ reason_number reasons.Broken = 10
 reason_number reasons.Empty = 11
 reason_number reasons.Limit = 12
 reason_number reasons.Unclean = 13
+reason_number reasons.Beyond = 14
 
 -- the numbers of a piece that is dropped: where it begins and ends, and why it is
 abbrev pub dropped_row : DroppedText → List ℕ

@@ -23,6 +23,8 @@ pub enum Asked {
     Mail,
     /// The lists of the policy for comments.
     Comment,
+    /// The urls of a text.
+    Urls,
 }
 
 /// Returns the form of a number, if it has one.
@@ -47,6 +49,7 @@ pub fn asked_of(number: usize) -> Option<Asked>
         3 => Some(Asked::IsClean(Form::Style)),
         4 => Some(Asked::Mail),
         5 => Some(Asked::Comment),
+        6 => Some(Asked::Urls),
         _ => None,
     }
 }

@@ -5,12 +5,14 @@ ghost use Rattle.call_answers.specs.Outcomes.{outcome_of};
 ghost use Rattle.css_clean.specs.Views.{dropped_of, sheet_policy_of};
 ghost use Rattle.clean_calls.specs.Passed.{passed_of};
 ghost use Rattle.clean_calls.specs.CleanCalls.{asked_of as asked_of_number, IsKept, AreDropped};
-ghost use Rattle.clean_calls.specs.CleanCalls.{IsCleanCall, IsToldCall, IsCleaned, FailsToClean, is_clean_text, says};
+ghost use Rattle.clean_calls.specs.CleanCalls.{IsCleanCall, IsToldCall, IsCleaned, FailsToClean, AreUrls, is_clean_text, says};
 
 use crate::asked::{Asked, Form, asked_of};
 use crate::lists::lines;
 use crate::policies::{PassedPolicy, policy_of, texts_in};
 use call_answers::answer::CallError;
+use call_answers::texts::text_of;
+use clean_values::urls::urls;
 use css_clean::{
     Cleaned, SheetPolicy, clean_sheet, clean_style, is_clean_sheet, is_clean_style, lists,
 };
@@ -88,8 +90,15 @@ fn told(
     Ok(word(alloc, holds)?)
 }
 
-/// Returns what is asked for: what is kept of a text by a policy, whether it is clean, or the lists of a policy of the
-/// library.
+/// Returns the urls of a text, with a byte 0 after each.
+fn urls_in(alloc: Global, text: &[u8]) -> Result<String, CallError>
+    ensures { AreUrls text.now (outcome_of result) }
+{
+    Ok(urls(alloc, text_of(text)?)?)
+}
+
+/// Returns what is asked for: what is kept of a text by a policy, whether it is clean, its urls, or the lists of a
+/// policy of the library.
 pub fn clean(
     alloc: Global,
     text: &[u8],
@@ -103,6 +112,7 @@ pub fn clean(
         Some(Asked::IsClean(form)) => told(alloc, form, text, policy),
         Some(Asked::Mail) => Ok(lines(alloc, lists::mail(""))?),
         Some(Asked::Comment) => Ok(lines(alloc, lists::comment(""))?),
+        Some(Asked::Urls) => urls_in(alloc, text),
         None => Err(CallError::Refused),
     }
 }

@@ -34,6 +34,7 @@ fn number_of(reason: Reason) -> usize
         Reason::Empty => 11,
         Reason::Limit => 12,
         Reason::Unclean => 13,
+        Reason::Beyond => 14,
     }
 }
 

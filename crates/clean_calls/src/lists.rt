@@ -25,6 +25,10 @@ pub(crate) fn lines(alloc: Global, policy: SheetPolicy<'_>) -> Result<String, Al
     push_names(&mut out, "strings", of_values.strings)?;
     push_names(&mut out, "pseudos", policy.pseudos)?;
     push_names(&mut out, "media", policy.media)?;
+    push_names(&mut out, "named", of_values.changes.named)?;
+    push_names(&mut out, "words", of_values.changes.words)?;
+    push_names(&mut out, "limited", of_values.limits.properties)?;
+    push_names(&mut out, "limits", of_values.limits.limits)?;
     out.push_str("reasons")?;
     for reason in &REASONS {
         out.push(' ')?;

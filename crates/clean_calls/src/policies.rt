@@ -11,6 +11,8 @@ ghost use Rattle.clean_calls.specs.Passed.{has_scope as has_scope_of};
 use crate::asked::Form;
 use call_answers::answer::CallError;
 use call_answers::texts::{text_of, texts_of};
+use clean_values::changes::Changes;
+use clean_values::limits::Limits;
 use css_clean::{Policy, SheetPolicy, is_scope};
 use std::alloc::{AllocError, Global};
 
@@ -18,8 +20,10 @@ use std::alloc::{AllocError, Global};
 #[repr(C)]
 #[derive(Clone, Copy)]
 pub struct PassedPolicy<'t> {
-    /// The scope, and then the names of properties, of functions, of the properties of which values may have
-    /// strings, of pseudo-classes and of words of media queries, one after another.
+    /// The scope and the prefix of names, and then the names of properties, of functions, of the properties of
+    /// which values may have strings and of pseudo-classes, urls, what is written in place of each, the
+    /// properties of which the words are names, the words that are none, the properties with limits, the limit of
+    /// each, and the words of media queries, one after another.
     pub texts: &'t [u8],
     /// Where each ends.
     pub ends: &'t [usize],
@@ -29,8 +33,16 @@ pub struct PassedPolicy<'t> {
     pub functions: usize,
     /// How many properties with strings there are.
     pub strings: usize,
-    /// How many pseudo-classes there are. All names after these are words of media queries.
+    /// How many pseudo-classes there are.
     pub pseudos: usize,
+    /// How many urls there are. As many texts are written in their places.
+    pub urls: usize,
+    /// How many properties there are of which the words are names.
+    pub named: usize,
+    /// How many words are no names there.
+    pub words: usize,
+    /// How many properties have limits. As many limits follow, and all after these are words of media queries.
+    pub limits: usize,
     /// Whether declarations may be important: any number but 0.
     pub important: usize,
     /// Whether rules may be for the elements that the scope matches: any number but 0.
@@ -51,7 +63,7 @@ fn cut<'p>(names: &'p [&'p str], count: usize) -> Result<(&'p [&'p str], &'p [&'
     Ok(names.split_at(count))
 }
 
-/// Returns the policy of texts, of which the first is the scope.
+/// Returns the policy of texts, of which the first is the scope, and the second the prefix of names.
 fn policy_of_texts<'p>(
     passed: &PassedPolicy<'_>,
     texts: &'p [&'p str],
@@ -60,20 +72,37 @@ fn policy_of_texts<'p>(
         MatchResult result (λ policy. IsPolicyOf p all (sheet_policy_of policy))
         (λ failure. (failure ≡ Refused) × IsShort p all) }
 {
-    let [scope, names @ ..] = texts else {
+    let [scope, prefix, names @ ..] = texts else {
         return Err(CallError::Refused);
     };
     let (properties, names) = cut(names, passed.properties)?;
     let (functions, names) = cut(names, passed.functions)?;
     let (strings, names) = cut(names, passed.strings)?;
-    let (pseudos, media) = cut(names, passed.pseudos)?;
+    let (pseudos, names) = cut(names, passed.pseudos)?;
+    let (urls, names) = cut(names, passed.urls)?;
+    let (answers, names) = cut(names, passed.urls)?;
+    let (named, names) = cut(names, passed.named)?;
+    let (words, names) = cut(names, passed.words)?;
+    let (limited, names) = cut(names, passed.limits)?;
+    let (limits, media) = cut(names, passed.limits)?;
     Ok(SheetPolicy {
         declarations: Policy {
             properties,
             functions,
             strings,
             important: passed.important != 0,
+            limits: Limits {
+                properties: limited,
+                limits,
+            },
             longest: passed.longest,
+            changes: Changes {
+                urls,
+                answers,
+                prefix: *prefix,
+                named,
+                words,
+            },
         },
         scope: *scope,
         itself: passed.itself != 0,

@@ -1,5 +1,5 @@
 -- The rules of a clean sheet are within the scope. Serves `scope_law`.
-use Rattle.std.proofs.Common.{◌≡◌, ℕ, Bool, true, false, if◌then◌else◌, List, [], ◌∷◌, All, map, inl, inr, Option, None, Some, Err, refl, sym, ap, subst}
+use Rattle.std.proofs.Common.{◌≡◌, ◌∙◌, ◌&&◌, ℕ, Bool, true, false, if◌then◌else◌, codes, List, [], ◌∷◌, All, map, inl, inr, Option, None, Some, Err, refl, sym, ap, subst}
 use Rattle.std.specs.Prelude.{is_none}
 use Rattle.std.proofs.lemmas.List.Elements.{All-nil, All-cons}
 use Rattle.css_matching.specs.Trees.{SiblingsShareParent}
@@ -7,7 +7,8 @@ use Rattle.css_syntax.specs.declared.quality.Quality.{Quality}
 use Rattle.css_syntax.specs.declared.quality.Quality.TheVariants as qualities
 use Rattle.css_syntax.specs.Qualities.{is_whole, is_good, fault_of}
 use Rattle.css_syntax.specs.Parts.{Stated}
-use Rattle.css_syntax.specs.Statements.{BlockText, StatementText, rule_set, at_rule_statement, skipped_statement, SheetText, statements}
+use Rattle.css_syntax.specs.Tokens.{spells}
+use Rattle.css_syntax.specs.Statements.{AtRuleText, BlockText, StatementText, rule_set, at_rule_statement, skipped_statement, SheetText, statements}
 use Rattle.css_syntax.specs.DeclarationLists.{items}
 use Rattle.css_selector_text.specs.Components.{Part, PseudoElement, Selector, Placed}
 use Rattle.css_selector_text.specs.Names.{no_names}
@@ -21,7 +22,11 @@ use Rattle.css_selectors.specs.Numberings.{numbered_selector}
 use Rattle.css_sheet.specs.RuleSelectors.{if_supported, element_read, read_with, selector_read, listed_or, all_read, selector_of, if_read as if_any_read}
 use Rattle.css_clean.specs.Scopes.{begins_with, is_under_scope, are_under_scope, is_read_under, is_compound, if_read, compound_read}
 use Rattle.css_clean.specs.Selectors.{SheetPolicyText, is_scope_text, scope_of, is_list_under, is_list_scoped}
-use Rattle.css_clean.specs.Sheets.{are_items_clean, is_rule_clean, is_inner_clean, are_inner_clean, is_group_clean, is_statement_clean, are_statements_clean, is_clean}
+use Rattle.clean_values.specs.Checks.{is_one_of}
+use Rattle.css_clean.specs.declared.groups.Group.{Group}
+use Rattle.css_clean.specs.declared.groups.Group.TheVariants as groups
+use Rattle.css_clean.specs.Groups.{has_frames, is_called, group_of}
+use Rattle.css_clean.specs.Sheets.{are_items_clean, is_rule_clean, is_inner_clean, are_inner_clean, is_block_clean, is_found_clean, is_statement_clean, are_statements_clean, is_clean}
 use Rattle.css_clean.proofs.CleanLemmas.{both-left, both-right}
 use Rattle.clean_laws.specs.Within.{IsRule, HasRule, BlockHasRule, IsOrHasRule, AnyHasRule, IsRuleOf, IsWithin, MatchesWithin, ReadsWithin, AreWithin, AreUnder}
 use Rattle.clean_laws.proofs.WithinLemmas.{Begins, begins, begins-any, begins-numbered, begins-any-numbered, matched_within, sole_matches}
@@ -33,40 +38,75 @@ abbrev IsScoped : SheetPolicyText → Stated → Type 0
 IsScoped policy prelude =
     (is_whole prelude.quality ≡ true) × (is_list_scoped policy prelude.text ≡ true)
 
-rule-scoped : (policy : SheetPolicyText) (own : Stated) (block : BlockText) → is_rule_clean policy own block ≡ true
-    → IsScoped policy own
+rule-scoped : (policy : SheetPolicyText) (own : Stated) (block : BlockText)
+    → is_rule_clean policy false own block ≡ true → IsScoped policy own
 rule-scoped policy own block e = (
   both-left _ block.closed (both-left _ (are_items_clean policy.declarations (items false block.text))
       (both-left _ (is_list_scoped policy own.text) e)),
   both-right _ (is_list_scoped policy own.text) e,
 )
 
-inner-scoped : (policy : SheetPolicyText) (s : StatementText) → is_inner_clean policy s ≡ true → (prelude : Stated)
-    → IsRule s prelude → IsScoped policy prelude
+inner-scoped : (policy : SheetPolicyText) (s : StatementText) → is_inner_clean policy false s ≡ true
+    → (prelude : Stated) → IsRule s prelude → IsScoped policy prelude
 inner-scoped policy (rule_set own block) e prelude h = subst (IsScoped policy) h (rule-scoped policy own block e)
 inner-scoped policy (at_rule_statement rule) e prelude h = absurd h
 inner-scoped policy (skipped_statement fault) e prelude h = absurd h
 
-inner-all : (policy : SheetPolicyText) (parts : List SheetText) → are_inner_clean policy parts ≡ true
+inner-all : (policy : SheetPolicyText) (parts : List SheetText) → are_inner_clean policy false parts ≡ true
     → (prelude : Stated) → HasRule parts prelude → IsScoped policy prelude
 inner-all policy [] e prelude h = absurd h
 inner-all policy (part ∷ more) e prelude (inl h) =
-    inner-scoped policy part.statement (both-left _ (are_inner_clean policy more) e) prelude h
+    inner-scoped policy part.statement (both-left _ (are_inner_clean policy false more) e) prelude h
 inner-all policy (part ∷ more) e prelude (inr h) =
-    inner-all policy more (both-right (is_inner_clean policy part.statement) _ e) prelude h
+    inner-all policy more (both-right (is_inner_clean policy false part.statement) _ e) prelude h
 
-block-scoped : (policy : SheetPolicyText) (block : Option BlockText) → is_group_clean policy block ≡ true
+block-scoped : (policy : SheetPolicyText) (block : Option BlockText) → is_block_clean policy false block ≡ true
     → (prelude : Stated) → BlockHasRule block prelude → IsScoped policy prelude
 block-scoped policy None e prelude h = absurd h
 block-scoped policy (Some block) e prelude h =
     inner-all policy (statements false block.text) (both-right block.closed _ e) prelude h
+
+-- no other at-rule has frames
+call-plain : (name : List ℕ) → spells (codes "keyframes") name ≡ false → (b : Bool)
+    → (group : Group) → (if spells (codes "keyframes") name && b then Some groups.Keyframes else None) ≡ Some group
+    → has_frames group ≡ false
+call-plain name e b group h =
+    absurd (let wrong : None ≡ Some group = ap (λ (k : Bool). if k && b then Some groups.Keyframes else None) (sym e) ∙ h in cc)
+
+if-other : (b : Bool) (one group : Group) (o : Option Group) → has_frames one ≡ false
+    → (o ≡ Some group → has_frames group ≡ false) → (if b then Some one else o) ≡ Some group
+    → has_frames group ≡ false
+if-other true one group o p h e = subst (λ g. has_frames g ≡ false) (some-is one group e) p
+  where
+    some-is : (x y : Group) → Some x ≡ Some y → x ≡ y
+    some-is x y i = cc
+if-other false one group o p h e = h e
+
+plain-group : (listed : List (List ℕ)) (name : List ℕ) (group : Group) → spells (codes "keyframes") name ≡ false
+    → group_of listed name ≡ Some group → has_frames group ≡ false
+plain-group listed name group e =
+    if-other (spells (codes "media") name) groups.Media group _ refl
+    (if-other (is_called listed (codes "supports") (codes "@supports") name) groups.Supports group _ refl
+    (if-other (is_called listed (codes "container") (codes "@container") name) groups.Container group _ refl
+    (if-other (is_called listed (codes "layer") (codes "@layer") name) groups.Layer group _ refl
+    (call-plain name e (is_one_of listed (codes "@keyframes")) group))))
+
+group-scoped : (policy : SheetPolicyText) (found : Option Group) (rule : AtRuleText)
+    → ((group : Group) → found ≡ Some group → has_frames group ≡ false) → is_found_clean policy found rule ≡ true
+    → (prelude : Stated) → BlockHasRule rule.block prelude → IsScoped policy prelude
+group-scoped policy None rule plain e prelude h = absurd (cc)
+group-scoped policy (Some group) rule plain e prelude h =
+    block-scoped policy rule.block
+    (subst (λ f. is_block_clean policy f rule.block ≡ true) (plain group refl)
+    (both-right _ (is_block_clean policy (has_frames group) rule.block) e)) prelude h
 
 statement-scoped : (policy : SheetPolicyText) (s : StatementText) → is_statement_clean policy s ≡ true
     → (prelude : Stated) → IsOrHasRule s prelude → IsScoped policy prelude
 statement-scoped policy (rule_set own block) e prelude h =
     subst (IsScoped policy) h (rule-scoped policy own block e)
 statement-scoped policy (at_rule_statement rule) e prelude h =
-    block-scoped policy rule.block (both-right _ (is_group_clean policy rule.block) e) prelude h
+    group-scoped policy (group_of policy.media rule.name) rule
+    (λ group. plain-group policy.media rule.name group h.0) e prelude h.1
 statement-scoped policy (skipped_statement fault) e prelude h = absurd h
 
 all-scoped : (policy : SheetPolicyText) (parts : List SheetText) → are_statements_clean policy parts ≡ true

@@ -1,7 +1,8 @@
 -- What is within the elements that a scope matches.
-use Rattle.std.specs.Prelude.{◌≡◌, ◌⊎◌, ℕ, Bool, true, false, List, [], ◌∷◌, All, Option, None, Some, Result, Ok, Err}
+use Rattle.std.specs.Prelude.{◌≡◌, ◌⊎◌, ℕ, Bool, true, false, List, [], ◌∷◌, codes, All, Option, None, Some, Result, Ok, Err}
 use Rattle.css_matching.specs.Placements.{IsBeyond}
 use Rattle.css_syntax.specs.declared.quality.Fault.{Fault}
+use Rattle.css_syntax.specs.Tokens.{spells}
 use Rattle.css_syntax.specs.Parts.{Stated}
 use Rattle.css_syntax.specs.Statements.{BlockText, StatementText, rule_set, at_rule_statement, skipped_statement, SheetText, statements}
 use Rattle.css_selector_text.specs.Components.{Selector}
@@ -28,17 +29,18 @@ abbrev pub BlockHasRule : Option BlockText → Stated → Type 0
 BlockHasRule None prelude = ⊥
 BlockHasRule (Some block) prelude = HasRule (statements false block.text) prelude
 
--- the statement is such a rule, or an at-rule with one in its block
+-- the statement is such a rule, or an at-rule with one in its block, where what `@keyframes` has are frames and no rules
 abbrev pub IsOrHasRule : StatementText → Stated → Type 0
 IsOrHasRule (rule_set own block) prelude = own ≡ prelude
-IsOrHasRule (at_rule_statement rule) prelude = BlockHasRule rule.block prelude
+IsOrHasRule (at_rule_statement rule) prelude =
+    (spells (codes "keyframes") rule.name ≡ false) × BlockHasRule rule.block prelude
 IsOrHasRule (skipped_statement fault) prelude = ⊥
 
 abbrev pub AnyHasRule : List SheetText → Stated → Type 0
 AnyHasRule [] prelude = ⊥
 AnyHasRule (part ∷ more) prelude = IsOrHasRule part.statement prelude ⊎ AnyHasRule more prelude
 
--- A rule of the sheet, or of the block of an at-rule of it, has this prelude. (A clean sheet has no at-rule in the
+-- A rule of the sheet, or of the block of an at-rule of it but `@keyframes`, has this prelude. (A clean sheet has no at-rule in the
 -- block of another.)
 abbrev pub IsRuleOf : (text : List ℕ) → Stated → Type 0
 IsRuleOf text prelude = AnyHasRule (statements false text) prelude

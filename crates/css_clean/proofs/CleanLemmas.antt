@@ -1,14 +1,22 @@
 -- What is kept of a list of declarations reads back, has nothing but bytes that may be written, and is
 -- kept again. Serves `read_kept`, `clean_style` and the law.
-use Rattle.std.proofs.Common.{◌≡◌, ◌∙◌, ◌<◌, ◌≤◌, ℕ, Bool, true, false, not, ◌&&◌, ◌||◌, if◌then◌else◌, List, [], ◌∷◌, ◌++◌, map, length, codes, refl, sym, ap, arith, Result, Ok, Err, IfOk}
+use Rattle.std.proofs.Common.{◌≡◌, ◌∙◌, ◌<◌, ◌≤◌, ℕ, Bool, true, false, not, ◌&&◌, ◌||◌, if◌then◌else◌, List, [], ◌∷◌, ◌++◌, map, length, codes, refl, sym, subst, ap, arith, rules, Option, Some, None, Result, Ok, Err, IfOk, bytes_eq, ◌==◌, eqb-true}
 use Rattle.std.proofs.lemmas.Bool.Decides.{nat_tests}
 use Rattle.std.proofs.lemmas.List.{append_assoc}
 use Rattle.std.specs.List.{All}
 use Rattle.std.proofs.lemmas.List.Elements.{All-append, All-cons, All-nil, All-head, All-tail}
-use Rattle.css_text.specs.AsciiBytes.{space}
+use Rattle.css_text.specs.AsciiBytes.{space, backslash}
 use Rattle.css_syntax.specs.DeclarationLists.{DeclarationText, ItemText, declared, at_rule_item, skipped_item, ListText, items}
 use Rattle.css_syntax.specs.Printing.{ends_lone, lone_end, important_text, stated_text, declaration_text, list_text, DeclarationReadsBack, ItemReadsBack, ItemsReadBack, ListReadsBack, printed_part}
-use Rattle.css_clean.specs.Policies.{PolicyText, is_allowed, are_safe, is_safe_byte, is_listed, value_allowed}
+use Rattle.css_clean.specs.Policies.{PolicyText, is_allowed, are_safe, is_safe_byte, is_property, value_allowed}
+use Rattle.std.proofs.lemmas.Slice.Eq.{bytes_eq-Decides}
+use Rattle.css_syntax.specs.DeclarationLists.{next_item}
+use Rattle.css_syntax.proofs.ListSteps.{items-some, items-none}
+use Rattle.clean_values.specs.Limits.{is_within_limit}
+use Rattle.clean_values.specs.Values.{has_backslash, written_value}
+use Rattle.clean_values.specs.Plain.{plain_name, plain_value}
+use Rattle.clean_values.specs.Checks.{changes_nothing}
+use Rattle.css_clean.specs.Cleaning.{has_escape, without_escapes, is_new, renamed, revalued, written, is_same, is_item, is_first, reads_back, is_kept, kept_written}
 use Rattle.css_clean.specs.Cleaning.{kept, kept_item, cleaned, read_of, is_short, IsCleanedOnce, DroppedText, item_dropped, dropped}
 use Rattle.css_syntax.specs.Placed.{PlacedItem}
 use Rattle.css_text.specs.Reading.{each as each_of}
@@ -32,35 +40,56 @@ pub not-true : (a : Bool) → not a ≡ true → a ≡ false
 not-true true e = sym e
 not-true false e = refl
 
+not-false : (a : Bool) → not a ≡ false → a ≡ true
+not-false true e = refl
+not-false false e = sym e
+
+neither-left : (a b : Bool) → (a || b) ≡ false → a ≡ false
+neither-left true b e = e
+neither-left false b e = refl
+
+neither-right : (a b : Bool) → (a || b) ≡ false → b ≡ false
+neither-right true b e = absurd (search rules)
+neither-right false b e = e
+
 -- ---- what reads back
+
+abbrev made : (name value : List ℕ) → (important closed : Bool) → DeclarationText
+made name value important closed =
+    record { name = name; value = value; important = important; closed = closed }
 
 allowed-closed : (p : PolicyText) (d : DeclarationText) → is_allowed p d ≡ true → d.closed ≡ true
 allowed-closed p d e =
     both-left _ (not (ends_lone d.value))
     (both-left _ (p.important || not d.important)
-    (both-left _ (is_listed p.properties d.name)
+    (both-left _ (is_property p d.name)
     (both-left _ (are_safe d.name)
     (both-left _ (are_safe d.value)
-    (both-left _ (value_allowed p d.name d.value) e)))))
+    (both-left _ (value_allowed p d.name d.value)
+    (both-left _ (is_within_limit p.limits d.name d.value) e))))))
 
 pub allowed-lone : (p : PolicyText) (d : DeclarationText) → is_allowed p d ≡ true → ends_lone d.value ≡ false
 allowed-lone p d e =
     not-true (ends_lone d.value) (both-right d.closed (not (ends_lone d.value))
     (both-left _ (p.important || not d.important)
-    (both-left _ (is_listed p.properties d.name)
+    (both-left _ (is_property p d.name)
     (both-left _ (are_safe d.name)
     (both-left _ (are_safe d.value)
-    (both-left _ (value_allowed p d.name d.value) e))))))
+    (both-left _ (value_allowed p d.name d.value)
+    (both-left _ (is_within_limit p.limits d.name d.value) e)))))))
 
 allowed-name : (p : PolicyText) (d : DeclarationText) → is_allowed p d ≡ true → are_safe d.name ≡ true
 allowed-name p d e =
     both-right _ (are_safe d.name)
     (both-left _ (are_safe d.value)
-    (both-left _ (value_allowed p d.name d.value) e))
+    (both-left _ (value_allowed p d.name d.value)
+    (both-left _ (is_within_limit p.limits d.name d.value) e)))
 
 allowed-value : (p : PolicyText) (d : DeclarationText) → is_allowed p d ≡ true → are_safe d.value ≡ true
 allowed-value p d e =
-    both-right _ (are_safe d.value) (both-left _ (value_allowed p d.name d.value) e)
+    both-right _ (are_safe d.value)
+    (both-left _ (value_allowed p d.name d.value)
+    (both-left _ (is_within_limit p.limits d.name d.value) e))
 
 -- what holds of a declaration that is allowed holds of each that is kept of an item
 kept-each : (P : DeclarationText → Type 0) (b : Bool) (d : DeclarationText) → (b ≡ true → P d)
@@ -68,23 +97,124 @@ kept-each : (P : DeclarationText → Type 0) (b : Bool) (d : DeclarationText) �
 kept-each P true d h = All-cons P d [] (h refl) (All-nil P)
 kept-each P false d h = All-nil P
 
-item-back : (p : PolicyText) (i : ItemText) → ItemReadsBack i → All DeclarationReadsBack (kept_item p i)
-item-back p (declared d) h =
-    kept-each DeclarationReadsBack (is_allowed p d) d
-    (λ e. h (allowed-closed p d e) (allowed-lone p d e))
-item-back p (at_rule_item a) h = All-nil DeclarationReadsBack
-item-back p (skipped_item fault) h = All-nil DeclarationReadsBack
+-- what holds of what is written and kept holds of what is kept of it
+kept-all : (P : DeclarationText → Type 0) (p : PolicyText) (new : Bool) (w : Option DeclarationText)
+    → ((d : DeclarationText) → is_kept p new d ≡ true → P d) → All P (kept_written p new w)
+kept-all P p new None h = All-nil P
+kept-all P p new (Some d) h = kept-each P (is_kept p new d) d (h d)
+
+kept-allows : (p : PolicyText) (new : Bool) (d : DeclarationText) → is_kept p new d ≡ true → is_allowed p d ≡ true
+kept-allows p new d e = both-left (is_allowed p d) (not new || reads_back d) e
+
+-- where nothing is changed, a declaration is written as it is
+written-same : (p : PolicyText) (d : DeclarationText) → changes_nothing p.changes ≡ true
+    → written p.changes d ≡ Some d
+written-same p d e =
+    ap (λ (b : Bool). if b then Some d
+    else revalued (renamed p.changes d) (written_value p.changes d.name d.value)) e
+
+-- without escapes it is itself
+escapes-none : (d : DeclarationText) → has_escape d ≡ false → without_escapes d ≡ d
+escapes-none d e =
+    ap (λ (b : Bool). if b then made (plain_name d.name) (plain_value d.value) d.important d.closed else d) e
+
+-- what is not new is written as it is
+old-same : (p : PolicyText) (d : DeclarationText) → has_escape d ≡ false → changes_nothing p.changes ≡ true
+    → written p.changes (without_escapes d) ≡ Some d
+old-same p d e n = ap (written p.changes) (escapes-none d e) ∙ written-same p d n
+
+old-escapes : (p : PolicyText) (d : DeclarationText) → is_new p.changes d ≡ false → has_escape d ≡ false
+old-escapes p d e = neither-left (has_escape d) (not (changes_nothing p.changes)) e
+
+old-changes : (p : PolicyText) (d : DeclarationText) → is_new p.changes d ≡ false → changes_nothing p.changes ≡ true
+old-changes p d e =
+    not-false (changes_nothing p.changes) (neither-right (has_escape d) (not (changes_nothing p.changes)) e)
+
+-- what is new reads back
+kept-reads-back : (p : PolicyText) (d : DeclarationText) → is_kept p true d ≡ true → reads_back d ≡ true
+kept-reads-back p d e = both-right (is_allowed p d) (reads_back d) e
 
 abbrev part-back : ListText → Type 0
 part-back part = ItemReadsBack part.item
 
-pub kept-back : (p : PolicyText) (parts : List ListText) → All (λ part. ItemReadsBack part.item) parts
-    → All DeclarationReadsBack (kept p parts)
-kept-back p [] all = All-nil DeclarationReadsBack
-kept-back p (part ∷ more) all =
+same-is : (a b : Bool) → is_same a b ≡ true → a ≡ b
+same-is true b e = sym e
+same-is false b e = sym (not-true b e)
+
+made-same : (n m v w : List ℕ) (i j c k : Bool) → n ≡ m → v ≡ w → i ≡ j → c ≡ k
+    → made n v i c ≡ made m w j k
+made-same n m v w i j c k e f g h =
+    ap (λ (x : List ℕ). made x v i c) e ∙ ap (λ (x : List ℕ). made m x i c) f
+    ∙ ap (λ (x : Bool). made m w x c) g ∙ ap (λ (x : Bool). made m w j x) h
+
+-- an item that is a declaration
+item-is : (d e : DeclarationText) → is_item d (declared e) ≡ true → e ≡ d
+item-is d e t =
+    let name = bytes_eq e.name d.name in
+    let value = bytes_eq e.value d.value in
+    let important = is_same e.important d.important in
+    let closed = is_same e.closed d.closed in
+    let front : (name && value && important) ≡ true = both-left (name && value && important) closed t in
+    let both-texts : (name && value) ≡ true = both-left (name && value) important front in
+    made-same e.name d.name e.value d.value e.important d.important e.closed d.closed
+    ((bytes_eq-Decides e.name d.name).0 (both-left name value both-texts))
+    ((bytes_eq-Decides e.value d.value).0 (both-right name value both-texts))
+    (same-is e.important d.important (both-right (name && value) important front))
+    (same-is e.closed d.closed (both-right (name && value && important) closed t))
+
+item-reads : (d : DeclarationText) (i : ItemText) → ItemReadsBack i → d.closed ≡ true
+    → ends_lone d.value ≡ false → is_item d i ≡ true → DeclarationReadsBack d
+item-reads d (declared e) h c l t =
+    let same : e ≡ d = item-is d e t in
+    subst DeclarationReadsBack same
+    (h (ap (λ (x : DeclarationText). x.closed) same ∙ c)
+    (ap (λ (x : DeclarationText). ends_lone x.value) same ∙ l))
+item-reads d (at_rule_item a) h c l t = absurd (search rules)
+item-reads d (skipped_item fault) h c l t = absurd (search rules)
+
+first-reads : (d : DeclarationText) (parts : List ListText) → All part-back parts → d.closed ≡ true
+    → ends_lone d.value ≡ false → is_first d parts ≡ true → DeclarationReadsBack d
+first-reads d [] all c l t = absurd (search rules)
+first-reads d (part ∷ more) all c l t =
+    item-reads d part.item (All-head part-back part more all) c l t
+
+-- the first item of a text, by its reader
+pub first_some : (d : DeclarationText) (text rest : List ℕ) (part : ListText)
+    → next_item false text ≡ Some (part, rest) → is_first d (items false text) ≡ is_item d part.item
+first_some d text rest part e = ap (is_first d) (items-some false text rest part e)
+
+pub first_none : (d : DeclarationText) (text : List ℕ) → next_item false text ≡ None
+    → is_first d (items false text) ≡ false
+first_none d text e = ap (is_first d) (items-none false text e)
+
+-- what is kept of a declaration that reads back reads back
+written-back : (p : PolicyText) (d : DeclarationText) (new : Bool) → is_new p.changes d ≡ new
+    → ((bs : List ℕ) → ItemsReadBack false bs) → ItemReadsBack (declared d)
+    → All DeclarationReadsBack (kept_written p new (written p.changes (without_escapes d)))
+written-back p d false n each h =
+    subst (λ w. All DeclarationReadsBack (kept_written p false w))
+    (sym (old-same p d (old-escapes p d n) (old-changes p d n)))
+    (kept-each DeclarationReadsBack (is_kept p false d) d
+    (λ e. h (allowed-closed p d (kept-allows p false d e)) (allowed-lone p d (kept-allows p false d e))))
+written-back p d true n each h =
+    kept-all DeclarationReadsBack p true (written p.changes (without_escapes d))
+    (λ x e. first-reads x (items false (declaration_text x)) (each (declaration_text x))
+    (allowed-closed p x (kept-allows p true x e)) (allowed-lone p x (kept-allows p true x e))
+    (kept-reads-back p x e))
+
+item-back : (p : PolicyText) (i : ItemText) → ((bs : List ℕ) → ItemsReadBack false bs) → ItemReadsBack i
+    → All DeclarationReadsBack (kept_item p i)
+item-back p (declared d) each h = written-back p d (is_new p.changes d) refl each h
+item-back p (at_rule_item a) each h = All-nil DeclarationReadsBack
+item-back p (skipped_item fault) each h = All-nil DeclarationReadsBack
+
+pub kept-back : (p : PolicyText) → ((bs : List ℕ) → ItemsReadBack false bs) → (parts : List ListText)
+    → All (λ part. ItemReadsBack part.item) parts → All DeclarationReadsBack (kept p parts)
+kept-back p each [] all = All-nil DeclarationReadsBack
+kept-back p each (part ∷ more) all =
     All-append DeclarationReadsBack (kept_item p part.item) (kept p more)
-    (item-back p part.item (All-head part-back part more all))
-    (kept-back p more (All-tail part-back part more all))
+    (item-back p part.item each (All-head part-back part more all))
+    (kept-back p each more (All-tail part-back part more all))
 
 -- ---- bytes
 
@@ -115,8 +245,10 @@ text-safe d n v l =
 
 item-safe : (p : PolicyText) (i : ItemText) → All SafeText (kept_item p i)
 item-safe p (declared d) =
-    kept-each SafeText (is_allowed p d) d
-    (λ e. text-safe d (allowed-name p d e) (allowed-value p d e) (allowed-lone p d e))
+    let new = is_new p.changes d in
+    kept-all SafeText p new (written p.changes (without_escapes d))
+    (λ x e. text-safe x (allowed-name p x (kept-allows p new x e)) (allowed-value p x (kept-allows p new x e))
+    (allowed-lone p x (kept-allows p new x e)))
 item-safe p (at_rule_item a) = All-nil SafeText
 item-safe p (skipped_item fault) = All-nil SafeText
 
@@ -173,7 +305,7 @@ kept-reads : (p : PolicyText) (text : List ℕ) → ((bs : List ℕ) → ItemsRe
     → ((xs : List DeclarationText) → ListReadsBack xs)
     → items false (cleaned p text) ≡ map printed_part (kept p (items false text))
 kept-reads p text each lists =
-    lists (kept p (items false text)) (kept-back p (items false text) (each text)) false
+    lists (kept p (items false text)) (kept-back p each (items false text) (each text)) false
 
 pub reads-kept : (p : PolicyText) (text out : List ℕ)
     → ((bs : List ℕ) → ItemsReadBack false bs) → ((xs : List DeclarationText) → ListReadsBack xs)
@@ -192,7 +324,9 @@ abbrev Allowed : PolicyText → DeclarationText → Type 0
 Allowed p d = is_allowed p d ≡ true
 
 kept-allowed-item : (p : PolicyText) (i : ItemText) → All (Allowed p) (kept_item p i)
-kept-allowed-item p (declared d) = kept-each (Allowed p) (is_allowed p d) d (λ e. e)
+kept-allowed-item p (declared d) =
+    let new = is_new p.changes d in
+    kept-all (Allowed p) p new (written p.changes (without_escapes d)) (λ x e. kept-allows p new x e)
 kept-allowed-item p (at_rule_item a) = All-nil (Allowed p)
 kept-allowed-item p (skipped_item fault) = All-nil (Allowed p)
 
@@ -202,19 +336,50 @@ kept-allowed p (part ∷ more) =
     All-append (Allowed p) (kept_item p part.item) (kept p more) (kept-allowed-item p part.item)
     (kept-allowed p more)
 
-kept-printed : (p : PolicyText) (ds : List DeclarationText) → All (Allowed p) ds
-    → kept p (map printed_part ds) ≡ ds
-kept-printed p [] all = refl
-kept-printed p (d ∷ more) all =
-    ap (λ (b : Bool). (if b then d ∷ [] else []) ++ kept p (map printed_part more))
-    (All-head (Allowed p) d more all)
-    ∙ ap (λ ds. d ∷ ds) (kept-printed p more (All-tail (Allowed p) d more all))
+-- a byte that may be written is no backslash
+byte-plain : (b : ℕ) → is_safe_byte b ≡ true → (b == backslash) ≡ false
+byte-plain b e = by (b == backslash) refl
+  where
+    by : (k : Bool) → (b == backslash) ≡ k → (b == backslash) ≡ false
+    by true f =
+        absurd
+        (let wrong : is_safe_byte backslash ≡ true = subst (λ (x : ℕ). is_safe_byte x ≡ true) (eqb-true b backslash f) e
+        in search rules)
+    by false f = f
+
+safe-plain : (text : List ℕ) → are_safe text ≡ true → has_backslash text ≡ false
+safe-plain [] e = refl
+safe-plain (b ∷ text) e =
+    ap (λ (k : Bool). k || has_backslash text) (byte-plain b (both-left (is_safe_byte b) (are_safe text) e))
+    ∙ safe-plain text (both-right (is_safe_byte b) (are_safe text) e)
+
+allowed-plain : (p : PolicyText) (d : DeclarationText) → is_allowed p d ≡ true → has_escape d ≡ false
+allowed-plain p d e =
+    ap (λ (k : Bool). k || has_backslash d.value) (safe-plain d.name (allowed-name p d e))
+    ∙ safe-plain d.value (allowed-value p d e)
+
+one-kept : (p : PolicyText) (d : DeclarationText) → changes_nothing p.changes ≡ true → is_allowed p d ≡ true
+    → kept_item p (declared d) ≡ d ∷ []
+one-kept p d n a =
+    let plain = allowed-plain p d a in
+    let old : is_new p.changes d ≡ false =
+    ap (λ (k : Bool). k || not (changes_nothing p.changes)) plain ∙ ap not n in
+    ap (λ (k : Bool). kept_written p k (written p.changes (without_escapes d))) old
+    ∙ ap (kept_written p false) (old-same p d plain n)
+    ∙ ap (λ (k : Bool). if k then d ∷ [] else []) (both (is_allowed p d) true a refl)
+
+kept-printed : (p : PolicyText) → changes_nothing p.changes ≡ true → (ds : List DeclarationText)
+    → All (Allowed p) ds → kept p (map printed_part ds) ≡ ds
+kept-printed p n [] all = refl
+kept-printed p n (d ∷ more) all =
+    ap (λ ds. ds ++ kept p (map printed_part more)) (one-kept p d n (All-head (Allowed p) d more all))
+    ∙ ap (λ ds. d ∷ ds) (kept-printed p n more (All-tail (Allowed p) d more all))
 
 pub clean-again : (p : PolicyText) (text : List ℕ) → ((bs : List ℕ) → ItemsReadBack false bs)
     → ((xs : List DeclarationText) → ListReadsBack xs) → IsCleanedOnce p text
-clean-again p text each lists =
+clean-again p text each lists n =
     ap (λ parts. list_text (kept p parts)) (kept-reads p text each lists)
-    ∙ ap list_text (kept-printed p (kept p (items false text)) (kept-allowed p (items false text)))
+    ∙ ap list_text (kept-printed p n (kept p (items false text)) (kept-allowed p (items false text)))
 
 -- ---- what is dropped
 

@@ -69,7 +69,7 @@ pub leaves-alone : (p : PolicyText) (text : List ℕ) (in_block : Bool) (more : 
     → LeavesAlone p text in_block more
 leaves-alone p text in_block more =
     let all : All DeclarationReadsBack (kept p (items false text)) =
-    kept-back p (items false text) (items-read_back false text) in
+    kept-back p (items-read_back false) (items false text) (items-read_back false text) in
     list-before in_block (kept p (items false text)) all more
     ∙ ap (λ (xs : List ListText). xs ++ items in_block more)
     (sym (list-read_back (kept p (items false text)) all in_block))

@@ -14,11 +14,13 @@ use Rattle.css_syntax.specs.DeclarationLists.{DeclarationText}
 use Rattle.css_syntax.specs.Placed.{placed_statements}
 use Rattle.css_syntax.specs.Printing.{list_text}
 use Rattle.css_clean.specs.declared.dropped.Reason.TheVariants as reasons
+use Rattle.css_clean.specs.declared.groups.Group.{Group}
+use Rattle.css_clean.specs.Groups.{group_name}
 use Rattle.css_clean.specs.Cleaning.{DroppedText, read_of, is_short}
 use Rattle.css_clean.specs.Selectors.{SheetPolicyText, is_list_scoped}
 use Rattle.css_clean.specs.Scoping.{scoped_then, joined, if_scoped}
 use Rattle.css_clean.specs.Sheets.{is_clean}
-use Rattle.css_clean.specs.KeptSheets.{KeptRule, KeptStatement, one_rule, rule_of, group_of, rule_text, rules_text, statement_text, sheet_text}
+use Rattle.css_clean.specs.KeptSheets.{KeptRule, KeptStatement, one_rule, rule_of, group_with_rules, rule_text, rules_text, statement_text, sheet_text}
 use Rattle.css_clean.specs.KeptSheets.{kept_rule, kept_statement, kept_statements, kept_text, cleaned_sheet}
 use Rattle.css_clean.specs.DroppedSheets.{StatementPlace, place_in}
 use Rattle.css_clean.specs.DroppedSheets.{dropped_statements, all_dropped, dropped_of_sheet}
@@ -88,9 +90,9 @@ sheet-rules (rule ∷ rules) = ap (λ t. rule_text rule ++ t) (sheet-rules rules
 
 pub sheet-rule : (policy : SheetPolicyText) (out : List ℕ) (s : StatementText) (prelude : Stated) (block : BlockText)
     → s ≡ rule_set prelude block
-    → out ++ rules_text (kept_rule policy prelude block) ≡ out ++ sheet_text (kept_statement policy s)
+    → out ++ rules_text (kept_rule policy false prelude block) ≡ out ++ sheet_text (kept_statement policy s)
 sheet-rule policy out s prelude block e =
-    ap (λ t. out ++ t) (sym (sheet-rules (kept_rule policy prelude block)))
+    ap (λ t. out ++ t) (sym (sheet-rules (kept_rule policy false prelude block)))
     ∙ ap (λ x. out ++ sheet_text (kept_statement policy x)) (sym e)
 
 -- ---- lists of what is dropped
@@ -135,7 +137,7 @@ rule-written f out new selectors list (x ∷ xs) e l wrote =
     wrote ∙ ap (λ t. out ++ (selectors ++ (codes " {" ++ (t ++ codes "}\n")))) l
     ∙ ap (λ t. out ++ t) (sym (rule-is selectors (f x) (map f xs)))
 
--- ---- media rules
+-- ---- group rules
 
 rule-long : (rule : KeptRule) → 0 < length (rule_text rule)
 rule-long rule = omega (
@@ -144,31 +146,37 @@ rule-long rule = omega (
   length-append (codes " {") (list_text rule.declarations ++ codes "}\n"),
 )
 
--- a rule is no empty text, so a media rule without text has no rule
-pub group-absent : (out query text : List ℕ) (rules : List KeptRule) → (length text == 0) ≡ true
-    → text ≡ rules_text rules → out ≡ out ++ sheet_text (group_of query rules)
-group-absent out query text [] e is = sym (append-nil out)
-group-absent out query text (rule ∷ rules) e is =
+-- a rule is no empty text, so a group rule without text has no rule
+pub group-absent : (out : List ℕ) (group : Group) (prelude text : List ℕ) (rules : List KeptRule)
+    → (length text == 0) ≡ true → text ≡ rules_text rules
+    → out ≡ out ++ sheet_text (group_with_rules group prelude rules)
+group-absent out group prelude text [] e is = sym (append-nil out)
+group-absent out group prelude text (rule ∷ rules) e is =
     let long : 0 < length (rule_text rule) = rule-long rule in
     let whole : length text ≡ length (rule_text rule) + length (rules_text rules) =
     ap (λ t. length t) is ∙ length-append (rule_text rule) (rules_text rules) in
     absurd (grind (arith, nat_tests))
 
-group-is : (query : List ℕ) (rule : KeptRule) (rules : List KeptRule)
-    → sheet_text (group_of query (rule ∷ rules))
-    ≡ codes "@media " ++ (query ++ (codes " {\n" ++ (rules_text (rule ∷ rules) ++ codes "}\n")))
-group-is query rule rules =
-    append-nil (codes "@media " ++ (query ++ (codes " {\n" ++ (rules_text (rule ∷ rules) ++ codes "}\n"))))
+abbrev pub group_written : (name prelude text : List ℕ) → List ℕ
+group_written name prelude text =
+    codes "@" ++ (name ++ (codes " " ++ (prelude ++ (codes " {\n" ++ (text ++ codes "}\n")))))
 
-pub group-written : (out new query text : List ℕ) (rules : List KeptRule) → (length text == 0) ≡ false
-    → text ≡ rules_text rules
-    → new ≡ out ++ (codes "@media " ++ (query ++ (codes " {\n" ++ (text ++ codes "}\n"))))
-    → new ≡ out ++ sheet_text (group_of query rules)
-group-written out new query text [] e is wrote =
+group-is : (group : Group) (prelude : List ℕ) (rule : KeptRule) (rules : List KeptRule)
+    → sheet_text (group_with_rules group prelude (rule ∷ rules))
+    ≡ group_written (group_name group) prelude (rules_text (rule ∷ rules))
+group-is group prelude rule rules =
+    append-nil (group_written (group_name group) prelude (rules_text (rule ∷ rules)))
+
+pub group-written : (out new : List ℕ) (group : Group) (name prelude text : List ℕ) (rules : List KeptRule)
+    → (length text == 0) ≡ false → name ≡ group_name group → text ≡ rules_text rules
+    → new ≡ out ++ group_written name prelude text
+    → new ≡ out ++ sheet_text (group_with_rules group prelude rules)
+group-written out new group name prelude text [] e named is wrote =
     let none : length text ≡ 0 = ap (λ t. length t) is in absurd (grind (arith, nat_tests))
-group-written out new query text (rule ∷ rules) e is wrote =
-    wrote ∙ ap (λ t. out ++ (codes "@media " ++ (query ++ (codes " {\n" ++ (t ++ codes "}\n"))))) is
-    ∙ ap (λ t. out ++ t) (sym (group-is query rule rules))
+group-written out new group name prelude text (rule ∷ rules) e named is wrote =
+    wrote ∙ ap (λ t. out ++ group_written t prelude text) named
+    ∙ ap (λ t. out ++ group_written (group_name group) prelude t) is
+    ∙ ap (λ t. out ++ t) (sym (group-is group prelude rule rules))
 
 -- ---- the whole
 

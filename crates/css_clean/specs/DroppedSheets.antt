@@ -9,9 +9,10 @@ use Rattle.css_clean.specs.declared.dropped.Reason.{Reason}
 use Rattle.css_clean.specs.declared.dropped.Reason.TheVariants as reasons
 use Rattle.css_clean.specs.Cleaning.{DroppedText, dropped_piece, dropped, kept, is_short}
 use Rattle.css_clean.specs.Selectors.{SheetPolicyText}
-use Rattle.css_clean.specs.Scoping.{scoped_list}
+use Rattle.css_clean.specs.Groups.{has_frames}
+use Rattle.css_clean.specs.Preludes.{rule_prelude}
 use Rattle.css_clean.specs.Sheets.{is_clean}
-use Rattle.css_clean.specs.KeptSheets.{media_block, kept_text}
+use Rattle.css_clean.specs.KeptSheets.{GroupText, group_rule, kept_text}
 
 -- A statement in its text: where that text ends in the whole sheet; what is left of it from the statement on, and
 -- from the contents of its block on; and the text of the statement.
@@ -41,15 +42,18 @@ dropped_under policy place block (Some selectors) =
     dropped policy.declarations (stop_of_block place block.text) (placed_items true block.text)
     ++ empty_dropped place (kept policy.declarations (items true block.text))
 
-abbrev pub dropped_rule : SheetPolicyText → StatementPlace → Stated → BlockText → List DroppedText
-dropped_rule policy place prelude block =
-    dropped_under policy place block (scoped_list policy prelude.text)
+abbrev pub dropped_rule :
+    SheetPolicyText → (frames : Bool) → StatementPlace → Stated → BlockText → List DroppedText
+dropped_rule policy frames place prelude block =
+    dropped_under policy place block (rule_prelude policy frames prelude.text)
 
--- a statement of the block of a media rule
-abbrev pub dropped_inner_statement : SheetPolicyText → StatementPlace → StatementText → List DroppedText
-dropped_inner_statement policy place (rule_set prelude block) = dropped_rule policy place prelude block
-dropped_inner_statement policy place (at_rule_statement a) = whole_dropped place reasons.AtRule ∷ []
-dropped_inner_statement policy place (skipped_statement fault) = whole_dropped place reasons.Broken ∷ []
+-- a statement of the block of a group rule
+abbrev pub dropped_inner_statement :
+    SheetPolicyText → (frames : Bool) → StatementPlace → StatementText → List DroppedText
+dropped_inner_statement policy frames place (rule_set prelude block) =
+    dropped_rule policy frames place prelude block
+dropped_inner_statement policy frames place (at_rule_statement a) = whole_dropped place reasons.AtRule ∷ []
+dropped_inner_statement policy frames place (skipped_statement fault) = whole_dropped place reasons.Broken ∷ []
 
 -- a statement that was read of a text that ends at `stop`
 abbrev pub place_in : (in_block : Bool) → (stop : ℕ) → PlacedStatement → StatementPlace
@@ -60,23 +64,25 @@ place_in in_block stop one = record {
   text = one.part.text;
 }
 
--- what is dropped of the block of a media rule, which ends at `stop`, in its order
-abbrev pub dropped_inner : SheetPolicyText → (stop : ℕ) → List PlacedStatement → List DroppedText
-dropped_inner policy stop [] = []
-dropped_inner policy stop (one ∷ more) =
-    dropped_inner_statement policy (place_in true stop one) one.part.statement
-    ++ dropped_inner policy stop more
+-- what is dropped of the block of a group rule, which ends at `stop`, in its order
+abbrev pub dropped_inner :
+    SheetPolicyText → (frames : Bool) → (stop : ℕ) → List PlacedStatement → List DroppedText
+dropped_inner policy frames stop [] = []
+dropped_inner policy frames stop (one ∷ more) =
+    dropped_inner_statement policy frames (place_in true stop one) one.part.statement
+    ++ dropped_inner policy frames stop more
 
--- an at-rule that is no media rule that is allowed; or what is dropped of its block
-abbrev pub dropped_group : SheetPolicyText → StatementPlace → Option BlockText → List DroppedText
+-- an at-rule that is no group rule that is allowed; or what is dropped of its block
+abbrev pub dropped_group : SheetPolicyText → StatementPlace → Option GroupText → List DroppedText
 dropped_group policy place None = whole_dropped place reasons.AtRule ∷ []
-dropped_group policy place (Some block) =
-    dropped_inner policy (stop_of_block place block.text) (placed_statements true block.text)
+dropped_group policy place (Some g) =
+    dropped_inner policy (has_frames g.group) (stop_of_block place g.block.text)
+    (placed_statements true g.block.text)
 
 -- a statement of a sheet
 abbrev pub dropped_statement : SheetPolicyText → StatementPlace → StatementText → List DroppedText
-dropped_statement policy place (rule_set prelude block) = dropped_rule policy place prelude block
-dropped_statement policy place (at_rule_statement a) = dropped_group policy place (media_block policy a)
+dropped_statement policy place (rule_set prelude block) = dropped_rule policy false place prelude block
+dropped_statement policy place (at_rule_statement a) = dropped_group policy place (group_rule policy a)
 dropped_statement policy place (skipped_statement fault) = whole_dropped place reasons.Broken ∷ []
 
 -- what is dropped of a sheet that ends at `stop`, in its order

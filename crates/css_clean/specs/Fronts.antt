@@ -6,7 +6,7 @@ use Rattle.css_text.specs.Bytes.{past, past_byte, starts, starts_by}
 use Rattle.css_text.specs.Characters.{is_space}
 use Rattle.css_syntax.specs.Tokens.{past_word}
 use Rattle.css_syntax.specs.DeclarationLists.{is_empty}
-use Rattle.css_clean.specs.Policies.{is_listed}
+use Rattle.clean_values.specs.Values.{is_listed}
 
 -- the elements that mean the scope
 abbrev pub front_elements : List (List ℕ)

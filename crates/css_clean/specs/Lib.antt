@@ -1,9 +1,12 @@
+pub mod Groups
 pub mod Policies
 pub mod Cleaning
 pub mod Scopes
 pub mod Selectors
+pub mod Preludes
 pub mod Sheets
 pub mod Fronts
+pub mod Escaping
 pub mod Scoping
 pub mod KeptSheets
 pub mod DroppedSheets

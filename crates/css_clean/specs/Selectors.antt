@@ -13,12 +13,13 @@ use Rattle.css_syntax.specs.DeclarationLists.{is_empty}
 use Rattle.css_selector_text.specs.Components.{Selector}
 use Rattle.css_selector_text.specs.Names.{no_names}
 use Rattle.css_selector_text.specs.reading.Grammar.{placed_list}
+use Rattle.clean_values.specs.Selectors.{is_selector_named}
 use Rattle.css_clean.specs.Scopes.{compound_read, is_read_under}
-use Rattle.css_clean.specs.Policies.{PolicyText, is_safe_byte, in_selector, in_scope, in_media, tokens_allowed, are_safe}
+use Rattle.css_clean.specs.Policies.{PolicyText, is_safe_byte, in_selector, in_scope, tokens_allowed}
 
 -- What is allowed in a sheet: what is allowed of declarations; the selector under which all selectors
 -- are, and whether a selector may be that one itself; pseudo-classes and pseudo-elements by their names;
--- the words of media queries.
+-- the words of media queries, and the names of other at-rules after `@`.
 pub record SheetPolicyText : Type 0 where
   pub declarations : PolicyText
   pub scope : List ℕ
@@ -28,9 +29,11 @@ pub record SheetPolicyText : Type 0 where
 
 -- ---- bytes
 
--- a byte that a backslash may escape: one of `!#$%&()*+,-./:[]`
+-- a byte that a backslash may escape: a hexadecimal digit, or one of `!#$%&()*+,-./:[]`
 abbrev pub is_escapable : ℕ → Bool
-is_escapable b = b == 33 || is_within 35 38 b || is_within 40 47 b || b == 58 || b == 91 || b == 93
+is_escapable b =
+    b == 33 || is_within 35 38 b || is_within 40 58 b || b == 91 || b == 93 || is_within 65 70 b
+    || is_within 97 102 b
 
 -- a byte of a selector, before this text: one that may be written, `>`, or a backslash before a byte that
 -- it may escape
@@ -78,12 +81,17 @@ after_front (c ∷ front) (b ∷ text) = if b == c then after_front front text e
 abbrev pub past_child : List ℕ → List ℕ
 past_child text = if starts_two 62 space text then drop 2 text else text
 
+-- a selector that may be under the scope, with the prefix of ids and classes
+unfoldable pub inner_allowed : SheetPolicyText → List ℕ → Bool
+inner_allowed policy text =
+    selector_allowed policy.pseudos text && is_selector_named policy.declarations.changes.prefix text
+
 -- Nothing follows the scope, if that may be; or a space does, or ` > `, and then a selector that may be under it.
 abbrev pub is_under : SheetPolicyText → Option (List ℕ) → Bool
 is_under policy None = false
 is_under policy (Some after) =
     policy.itself && is_empty after
-    || starts space after && selector_allowed policy.pseudos (past_child (past_one after))
+    || starts space after && inner_allowed policy (past_child (past_one after))
 
 -- A selector that is under the scope, or, where it is to be put there, any.
 abbrev pub fits : SheetPolicyText → (is_scoped : Bool) → List ℕ → Bool
@@ -134,9 +142,3 @@ is_list_under policy text (Some scope) =
 
 abbrev pub is_list_scoped : SheetPolicyText → List ℕ → Bool
 is_list_scoped policy text = is_list_under policy text (scope_of policy.scope)
-
--- ---- media queries
-
--- A list of media queries: of bytes that may be written, of words that are listed.
-abbrev pub media_allowed : (words : List (List ℕ)) → List ℕ → Bool
-media_allowed words text = are_safe text && tokens_allowed (in_media words) text

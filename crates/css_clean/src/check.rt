@@ -6,19 +6,24 @@ ghost use Rattle.css_syntax.specs.Views.{block_of, item_of, prelude_of, at_rule_
 ghost use Rattle.css_clean.specs.Sheets.{are_sheet_bytes as are_sheet_bytes_of, is_item_clean as is_item_clean_of};
 ghost use Rattle.css_clean.specs.Sheets.{are_items_clean as are_items_clean_of, is_rule_clean as is_rule_clean_of};
 ghost use Rattle.css_clean.specs.Sheets.{is_inner_clean as is_inner_clean_of, are_inner_clean as are_inner_clean_of};
-ghost use Rattle.css_clean.specs.Sheets.{is_group_clean as is_group_clean_of, is_media_clean as is_media_clean_of};
+ghost use Rattle.css_clean.specs.Sheets.{is_block_clean as is_block_clean_of, is_group_clean as is_group_clean_of};
+ghost use Rattle.css_clean.specs.Sheets.{is_at_rule_clean as is_at_rule_clean_of};
 ghost use Rattle.css_clean.specs.Sheets.{is_statement_clean as is_statement_clean_of};
 ghost use Rattle.css_clean.specs.Sheets.{are_statements_clean as are_statements_clean_of, is_clean};
 ghost use Rattle.css_clean.specs.Sheets.{is_style_clean};
 ghost use Rattle.css_clean.specs.Sheets.{is_sheet_byte as is_sheet_byte_of};
-ghost use Rattle.css_clean.specs.Views.{policy_of, sheet_policy_of};
+ghost use Rattle.css_clean.specs.Policies.{any_value as any_value_of};
+ghost use Rattle.css_clean.specs.Views.{policy_of, sheet_policy_of, place_of};
 
-use crate::policy::{Place, Policy, are_safe, are_tokens_allowed, is_allowed, is_safe_byte};
-use crate::selectors::{SheetPolicy, is_list_scoped, is_media_allowed};
+use crate::groups::{Group, group_of, has_frames};
+use crate::policy::{
+    Place, Policy, ValuePlace, are_safe, are_tokens_allowed, is_allowed, is_safe_byte,
+};
+use crate::preludes::{is_prelude_clean, is_rule_prelude};
+use crate::selectors::SheetPolicy;
 use css_syntax::declarations::read_part;
 use css_syntax::quality::is_whole;
 use css_syntax::statements::read_next;
-use css_syntax::texts::spells;
 use css_syntax::{AtRule, Block, Item, Prelude, Statement};
 use std::alloc::{AllocError, Global};
 
@@ -67,48 +72,57 @@ fn are_items_clean(policy: Policy<'_>, text: &str) -> bool
     true
 }
 
-/// Whether a rule is clean.
+/// Whether a rule, or one of frames, is clean.
 fn is_rule_clean(
     alloc: Global,
     policy: SheetPolicy<'_>,
+    in_frames: bool,
     prelude: &Prelude<'_>,
     block: &Block<'_>,
 ) -> Result<bool, AllocError>
-    ensures { IfOk result (λ holds. holds ≡ is_rule_clean_of (sheet_policy_of policy.entry)
+    ensures { IfOk result (λ holds. holds ≡ is_rule_clean_of (sheet_policy_of policy.entry) in_frames
         (prelude_of prelude.now) (block_of block.now)) }
 {
     if is_whole(prelude.quality)
         && block.closed
         && are_items_clean(policy.declarations, block.text)
     {
-        return is_list_scoped(alloc, policy, prelude.text);
+        return is_rule_prelude(alloc, policy, in_frames, prelude.text);
     }
     Ok(false)
 }
 
-/// Whether a statement of the block of a media rule is a rule that is clean.
+/// Whether a statement of the block of a group rule is a rule, or one of frames, that is clean.
 fn is_inner_clean(
     alloc: Global,
     policy: SheetPolicy<'_>,
+    in_frames: bool,
     statement: &Statement<'_>,
 ) -> Result<bool, AllocError>
     ensures { IfOk result (λ holds. holds
-        ≡ is_inner_clean_of (sheet_policy_of policy.entry) (statement_of statement.now)) }
+        ≡ is_inner_clean_of (sheet_policy_of policy.entry) in_frames (statement_of statement.now)) }
 {
     match statement {
-        Statement::RuleSet(rule) => is_rule_clean(alloc, policy, &rule.prelude, &rule.block),
+        Statement::RuleSet(rule) => {
+            is_rule_clean(alloc, policy, in_frames, &rule.prelude, &rule.block)
+        }
         Statement::AtRule(_) | Statement::Skipped(_) => Ok(false),
     }
 }
 
-/// Whether each statement of the block of a media rule is a rule that is clean.
-fn are_inner_clean(alloc: Global, policy: SheetPolicy<'_>, text: &str) -> Result<bool, AllocError>
+/// Whether each statement of the block of a group rule is a rule, or one of frames, that is clean.
+fn are_inner_clean(
+    alloc: Global,
+    policy: SheetPolicy<'_>,
+    in_frames: bool,
+    text: &str,
+) -> Result<bool, AllocError>
     ensures { IfOk result (λ holds. holds
-        ≡ are_inner_clean_of (sheet_policy_of policy.entry) (statements false text.now)) }
+        ≡ are_inner_clean_of (sheet_policy_of policy.entry) in_frames (statements false text.now)) }
 {
     let mut rest = text;
     'parts: while let Some(found) = read_next(rest, false) {
-        if !is_inner_clean(alloc, policy, &found.part.statement)? {
+        if !is_inner_clean(alloc, policy, in_frames, &found.part.statement)? {
             return Ok(false);
         }
         rest = found.rest;
@@ -116,40 +130,54 @@ fn are_inner_clean(alloc: Global, policy: SheetPolicy<'_>, text: &str) -> Result
     Ok(true)
 }
 
-/// Whether there is a block that is closed and has nothing but rules that are clean.
-fn is_group_clean(
+/// Whether there is a block that is closed and has nothing but rules, or rules of frames, that are clean.
+fn is_block_clean(
     alloc: Global,
     policy: SheetPolicy<'_>,
+    in_frames: bool,
     block: Option<Block<'_>>,
 ) -> Result<bool, AllocError>
     ensures { IfOk result (λ holds. holds
-        ≡ is_group_clean_of (sheet_policy_of policy.entry) (option_map block_of block.entry)) }
+        ≡ is_block_clean_of (sheet_policy_of policy.entry) in_frames (option_map block_of block.entry)) }
 {
     match block {
-        Some(block) if block.closed => are_inner_clean(alloc, policy, block.text),
+        Some(block) if block.closed => are_inner_clean(alloc, policy, in_frames, block.text),
         _ => Ok(false),
     }
 }
 
-/// Whether an at-rule is a media rule that is clean.
-fn is_media_clean(
+/// Whether an at-rule that is a group rule is clean.
+fn is_group_clean(
+    alloc: Global,
+    policy: SheetPolicy<'_>,
+    group: Group,
+    rule: &AtRule<'_>,
+) -> Result<bool, AllocError>
+    ensures { IfOk result (λ holds. holds
+        ≡ is_group_clean_of (sheet_policy_of policy.entry) group (at_rule_of rule.now)) }
+{
+    if is_whole(rule.prelude.quality) && is_prelude_clean(policy, group, rule.prelude.text) {
+        return is_block_clean(alloc, policy, has_frames(group), rule.block);
+    }
+    Ok(false)
+}
+
+/// Whether an at-rule is a group rule that is clean.
+fn is_at_rule_clean(
     alloc: Global,
     policy: SheetPolicy<'_>,
     rule: &AtRule<'_>,
 ) -> Result<bool, AllocError>
     ensures { IfOk result (λ holds. holds
-        ≡ is_media_clean_of (sheet_policy_of policy.entry) (at_rule_of rule.now)) }
+        ≡ is_at_rule_clean_of (sheet_policy_of policy.entry) (at_rule_of rule.now)) }
 {
-    if spells("media", rule.name)
-        && is_whole(rule.prelude.quality)
-        && is_media_allowed(policy, rule.prelude.text)
-    {
-        return is_group_clean(alloc, policy, rule.block);
+    match group_of(policy.media, rule.name.as_bytes()) {
+        Some(group) => is_group_clean(alloc, policy, group, rule),
+        None => Ok(false),
     }
-    Ok(false)
 }
 
-/// Whether a statement is a rule or a media rule that is clean.
+/// Whether a statement is a rule or a group rule that is clean.
 fn is_statement_clean(
     alloc: Global,
     policy: SheetPolicy<'_>,
@@ -159,8 +187,10 @@ fn is_statement_clean(
         ≡ is_statement_clean_of (sheet_policy_of policy.entry) (statement_of statement.now)) }
 {
     match statement {
-        Statement::RuleSet(rule) => is_rule_clean(alloc, policy, &rule.prelude, &rule.block),
-        Statement::AtRule(rule) => is_media_clean(alloc, policy, rule),
+        Statement::RuleSet(rule) => {
+            is_rule_clean(alloc, policy, false, &rule.prelude, &rule.block)
+        }
+        Statement::AtRule(rule) => is_at_rule_clean(alloc, policy, rule),
         Statement::Skipped(_) => Ok(false),
     }
 }
@@ -184,8 +214,9 @@ fn are_statements_clean(
     Ok(true)
 }
 
-/// Whether a sheet is one that the policy allows, as it is. Each statement of it is a rule, or a media
-/// rule of words that are listed with nothing but rules. Each selector of a rule is the scope, a space or ` > `, and
+/// Whether a sheet is one that the policy allows, as it is. Each statement of it is a rule, or a group
+/// rule that is listed with nothing but rules: a media rule of words that are listed, or `@keyframes` with a name that has
+/// the prefix, in which each rule is of frames. Each other selector of a rule is the scope, a space or ` > `, and
 /// a selector that begins with no combinator, whose pseudo-classes are listed; or, if that may be, the scope. So it is
 /// read by `css_selector_text`, too. Each item of its block is a
 /// declaration that is allowed. There is no url, no comment, no function and no at-rule but those that are
@@ -197,11 +228,25 @@ pub fn is_clean_sheet(
 ) -> Result<bool, AllocError>
     ensures { IfOk result (λ holds. holds ≡ is_clean (sheet_policy_of policy.entry) text.now) }
 {
-    let place = Place::Sheet(policy.declarations.functions, policy.pseudos);
+    let place = Place::Sheet(policy.declarations.functions, policy.pseudos, policy.media);
     if are_sheet_bytes(text.as_bytes()) && are_tokens_allowed(place, text.as_bytes()) {
         return are_statements_clean(alloc, policy, text);
     }
     Ok(false)
+}
+
+/// Returns what any value may have.
+fn any_value(policy: Policy<'_>) -> Place<'_>
+    ensures { place_of result ≡ any_value_of (policy_of policy.entry) }
+{
+    Place::Value(ValuePlace {
+        functions: policy.functions,
+        strings: true,
+        sources: false,
+        loads: false,
+        named: false,
+        changes: policy.changes,
+    })
 }
 
 /// Whether a style attribute is one that the policy allows, as it is: each item of it is a declaration that is
@@ -210,6 +255,6 @@ pub fn is_clean_style(policy: Policy<'_>, text: &str) -> bool
     ensures { result ≡ is_style_clean (policy_of policy.entry) text.now }
 {
     are_safe(text.as_bytes())
-        && are_tokens_allowed(Place::Value(policy.functions, true), text.as_bytes())
+        && are_tokens_allowed(any_value(policy), text.as_bytes())
         && are_items_clean(policy, text)
 }

@@ -2,12 +2,15 @@
 ghost use Rattle.std.specs.Prelude.{◌≡◌};
 ghost use Rattle.css_clean.specs.Views.{policy_of};
 ghost use Rattle.css_clean.specs.Policies.{kind_reason as kind_reason_of, tokens_reason as tokens_reason_of};
-ghost use Rattle.css_clean.specs.Policies.{reason_of as reason_of_declaration};
+ghost use Rattle.css_clean.specs.Policies.{value_reason as value_reason_of, reason_of as reason_of_declaration};
 ghost use Rattle.css_clean.specs.Views.{place_of};
 ghost use Rattle.css_syntax.specs.TokenLists.{tokens};
 ghost use Rattle.css_syntax.specs.Views.{declaration_of};
 
-use crate::policy::{Place, Policy, are_safe, is_listed, is_token_allowed, place_of_value};
+use crate::policy::{
+    Place, Policy, are_safe, is_property, is_token_allowed, is_value_allowed, place_of_value,
+};
+use clean_values::limits::is_within_limit;
 use css_syntax::Declaration;
 use css_syntax::printing::ends_lone;
 use css_syntax::tokenizer::{TokenKind, read_next};
@@ -19,7 +22,7 @@ pub enum Reason {
     Property,
     /// A function is not listed.
     Function,
-    /// There is a url.
+    /// There is a url without an answer.
     Url,
     /// There is a string, and the property is not listed for strings, or a string with a newline.
     String,
@@ -44,10 +47,12 @@ pub enum Reason {
     Limit,
     /// What is left of the sheet was read again, and was not clean. All of it is dropped.
     Unclean,
+    /// A number or a word of the value is beyond the limit of the property.
+    Beyond,
 }
 
 /// Each reason, in the order of their numbers in C.
-pub const REASONS: [Reason; 14] = [
+pub const REASONS: [Reason; 15] = [
     Reason::Property,
     Reason::Function,
     Reason::Url,
@@ -62,6 +67,7 @@ pub const REASONS: [Reason; 14] = [
     Reason::Empty,
     Reason::Limit,
     Reason::Unclean,
+    Reason::Beyond,
 ];
 
 impl Reason {
@@ -82,6 +88,7 @@ impl Reason {
             Reason::Empty => "empty",
             Reason::Limit => "limit",
             Reason::Unclean => "unclean",
+            Reason::Beyond => "beyond",
         }
     }
 }
@@ -123,13 +130,23 @@ fn tokens_reason(place: Place<'_>, value: &[u8]) -> Reason
     Reason::Token
 }
 
+/// Returns why a value is refused: for a token of it, or for the limit of its property.
+fn value_reason(policy: Policy<'_>, name: &[u8], value: &[u8]) -> Reason
+    ensures { result ≡ value_reason_of (policy_of policy.entry) name.now value.now }
+{
+    if is_value_allowed(policy, name, value) && !is_within_limit(policy.limits, name, value) {
+        return Reason::Beyond;
+    }
+    tokens_reason(place_of_value(policy, name, value), value)
+}
+
 /// Returns why a declaration that the policy does not allow is refused: the first reason that holds.
 pub(crate) fn reason_of(policy: Policy<'_>, declaration: &Declaration<'_>) -> Reason
     ensures { result ≡ reason_of_declaration (policy_of policy.entry) (declaration_of declaration.now) }
 {
     let name = declaration.name.as_bytes();
     let value = declaration.value.as_bytes();
-    if !is_listed(policy.properties, name) {
+    if !is_property(policy, name) {
         Reason::Property
     } else if declaration.important && !policy.important {
         Reason::Important
@@ -138,6 +155,6 @@ pub(crate) fn reason_of(policy: Policy<'_>, declaration: &Declaration<'_>) -> Re
     } else if !(are_safe(name) && are_safe(value)) {
         Reason::Byte
     } else {
-        tokens_reason(place_of_value(policy, name), value)
+        value_reason(policy, name, value)
     }
 }

@@ -8,7 +8,7 @@ ghost use Rattle.css_clean.specs.Fronts.{after_scope_name as after_scope_name_of
 ghost use Rattle.css_clean.specs.Fronts.{past_front as past_front_of, inner_of as inner_of_text};
 ghost use Rattle.css_clean.specs.Views.{inner_view};
 
-use crate::policy::is_listed;
+use clean_values::names::is_listed;
 use css_syntax::texts::{past_byte, past_spaces, past_word};
 
 /// What is left of a selector after the names at its front that mean the scope.

@@ -7,15 +7,19 @@
 
 mod check;
 pub mod dropped;
+mod escaping;
 mod fronts;
+pub mod groups;
 pub mod laws;
 pub mod lists;
 mod policy;
+mod preludes;
 mod scopes;
 mod scoping;
 mod selectors;
 mod sheet;
 mod style;
+mod written;
 
 pub use check::{is_clean_sheet, is_clean_style};
 pub use dropped::{Dropped, Reason};

@@ -1,25 +1,32 @@
 //! What a policy allows of declarations.
 ghost use Rattle.std.specs.Prelude.{◌≡◌, false, map};
-ghost use Rattle.css_text.specs.Reading.{before};
 ghost use Rattle.css_text.specs.Bytes.{starts_by};
 ghost use Rattle.css_syntax.specs.TokenLists.{tokens};
 ghost use Rattle.css_syntax.specs.TokenViews.{token_of};
 ghost use Rattle.css_syntax.specs.Views.{declaration_of};
-ghost use Rattle.css_clean.specs.Policies.{is_listed as is_listed_of, is_safe_byte as is_safe_byte_of};
+ghost use Rattle.css_clean.specs.Policies.{is_safe_byte as is_safe_byte_of};
 ghost use Rattle.css_clean.specs.Policies.{are_safe as are_safe_of, begins_mark as begins_mark_of};
-ghost use Rattle.css_clean.specs.Policies.{value_allows as value_allows_of, in_value};
+ghost use Rattle.css_clean.specs.Policies.{function_allowed, string_allowed, value_allows as value_allows_of};
+ghost use Rattle.css_clean.specs.Policies.{place_of_value as place_of_value_text, is_property as is_property_of};
 ghost use Rattle.css_clean.specs.Policies.{selector_allows as selector_allows_of};
 ghost use Rattle.css_clean.specs.Policies.{media_allows as media_allows_of, is_media_mark};
-ghost use Rattle.css_clean.specs.Policies.{scope_allows as scope_allows_of};
+ghost use Rattle.css_clean.specs.Policies.{scope_allows as scope_allows_of, supports_allows as supports_allows_of};
+ghost use Rattle.css_clean.specs.Policies.{name_allows as name_allows_of, frames_allow as frames_allow_of};
 ghost use Rattle.css_clean.specs.Policies.{sheet_allows as sheet_allows_of};
 ghost use Rattle.css_clean.specs.Policies.{token_allowed, all_allowed, is_colon as is_colon_of, may_end as may_end_of};
-ghost use Rattle.css_clean.specs.Policies.{inside_of, is_allowed as is_allowed_of};
-ghost use Rattle.css_clean.specs.Views.{policy_of, place_of};
+ghost use Rattle.css_clean.specs.Policies.{is_allowed as is_allowed_of, value_allowed};
+ghost use Rattle.css_clean.specs.Views.{policy_of, place_of, value_place_of};
+ghost use Rattle.clean_values.specs.Views.{changes_of};
 
+use crate::groups::group_of;
+use clean_values::changes::Changes;
+use clean_values::checks::{has_prefix, is_beside_urls, is_custom, is_one_of};
+use clean_values::limits::{Limits, is_within_limit};
+use clean_values::names::{inside, is_listed};
+use clean_values::values::{has_loader, has_source};
 use css_syntax::Declaration;
 use css_syntax::printing::ends_lone;
 use css_syntax::tokenizer::{Token, TokenKind, read_next};
-use css_syntax::tokens::spells;
 
 /// What is allowed of declarations. Names are in lower case, and match names in any case.
 #[derive(Clone, Copy)]
@@ -32,37 +39,51 @@ pub struct Policy<'p> {
     pub strings: &'p [&'p str],
     /// Whether declarations may be important.
     pub important: bool,
+    /// Limits of values of properties that are listed.
+    pub limits: Limits<'p>,
     /// The most bytes of a text. A longer one is dropped whole.
     pub longest: usize,
+    /// What is changed in values: urls are answered, and names have a prefix. With a prefix, custom properties
+    /// are allowed, too.
+    pub changes: Changes<'p>,
+}
+
+/// What a value may have.
+#[derive(Clone, Copy)]
+pub(crate) struct ValuePlace<'p> {
+    /// The functions.
+    pub functions: &'p [&'p str],
+    /// Whether it may have strings.
+    pub strings: bool,
+    /// Whether each string is a url.
+    pub sources: bool,
+    /// Whether a function loads a string.
+    pub loads: bool,
+    /// Whether words are names.
+    pub named: bool,
+    /// What is changed in values.
+    pub changes: Changes<'p>,
 }
 
 /// Where tokens are, and which are listed there.
 #[derive(Clone, Copy)]
 pub(crate) enum Place<'p> {
-    /// A value, with the functions that it may have, and whether it may have strings.
-    Value(&'p [&'p str], bool),
+    /// A value.
+    Value(ValuePlace<'p>),
     /// A selector, with its pseudo-classes and pseudo-elements.
     Selector(&'p [&'p str]),
     /// A media query, with its words.
     Media(&'p [&'p str]),
+    /// A condition of `@supports`.
+    Supports,
+    /// A name.
+    Name,
+    /// The frames of a rule in `@keyframes`.
+    Frames,
     /// The scope.
     Scope,
-    /// A whole sheet, with the functions of values, and the pseudo-classes of selectors.
-    Sheet(&'p [&'p str], &'p [&'p str]),
-}
-
-/// Whether the word is one of the names.
-pub(crate) fn is_listed(names: &[&str], word: &[u8]) -> bool
-    ensures { result ≡ is_listed_of (map (λ name. name.now) names.now) word.now }
-{
-    let mut left = names;
-    'names: while let [name, more @ ..] = left {
-        if spells(name.as_bytes(), word) {
-            return true;
-        }
-        left = more;
-    }
-    false
+    /// A whole sheet, with the functions of values, the pseudo-classes of selectors, and what is listed of media queries.
+    Sheet(&'p [&'p str], &'p [&'p str], &'p [&'p str]),
 }
 
 /// Whether the byte is one that may be written in a value.
@@ -86,20 +107,31 @@ pub(crate) fn are_safe(bytes: &[u8]) -> bool
     true
 }
 
-/// Returns what is in the token.
-fn inside<'a>(token: &Token<'a>) -> &'a [u8]
-    ensures { result.now ≡ inside_of (token_of token.now) }
+/// Whether a value may have a function of this name.
+fn is_function_allowed(place: ValuePlace<'_>, name: &[u8]) -> bool
+    ensures { result ≡ function_allowed (value_place_of place.entry) name.now }
 {
-    &token.inside[..token.inside.len().saturating_sub(token.inside_end.len())]
+    is_listed(place.functions, name) && (!place.loads || is_beside_urls(name))
+}
+
+/// Whether a value may have a string in which this is.
+fn is_string_allowed(place: ValuePlace<'_>, inside: &[u8]) -> bool
+    ensures { result ≡ string_allowed (value_place_of place.entry) inside.now }
+{
+    if place.sources {
+        return is_one_of(place.changes.answers, inside);
+    }
+    place.strings && !place.named
 }
 
 /// Whether a value may have a token of this kind, in which this is.
-fn value_allows(functions: &[&str], strings: bool, kind: TokenKind, inside: &[u8]) -> bool
-    ensures { result ≡ value_allows_of (map (λ name. name.now) functions.now) strings kind inside.now }
+fn value_allows(place: ValuePlace<'_>, kind: TokenKind, inside: &[u8]) -> bool
+    ensures { result ≡ value_allows_of (value_place_of place.entry) kind inside.now }
 {
     match kind {
-        TokenKind::Function => is_listed(functions, inside),
-        TokenKind::String => strings,
+        TokenKind::Ident => has_prefix(place.changes, place.named, inside),
+        TokenKind::Function => is_function_allowed(place, inside),
+        TokenKind::String => is_string_allowed(place, inside),
         TokenKind::Url
         | TokenKind::BadUrl
         | TokenKind::BadString
@@ -174,6 +206,45 @@ fn media_allows(words: &[&str], kind: TokenKind, from: &[u8], inside: &[u8]) -> 
     }
 }
 
+/// Whether a condition of `@supports` may have a token of this kind.
+fn supports_allows(kind: TokenKind, from: &[u8]) -> bool
+    ensures { result ≡ supports_allows_of kind from.now }
+{
+    match kind {
+        TokenKind::Whitespace
+        | TokenKind::Ident
+        | TokenKind::Hash
+        | TokenKind::IdHash
+        | TokenKind::Number
+        | TokenKind::Percentage
+        | TokenKind::Dimension => true,
+        TokenKind::Delim => matches!(from, [b'(' | b')' | b':' | b',' | b'/', ..]),
+        _ => false,
+    }
+}
+
+/// Whether a name may have a token of this kind.
+fn name_allows(kind: TokenKind) -> bool
+    ensures { result ≡ name_allows_of kind }
+{
+    match kind {
+        TokenKind::Ident => true,
+        _ => false,
+    }
+}
+
+/// Whether the frames of a rule may have a token of this kind, in which this is.
+fn frames_allow(kind: TokenKind, from: &[u8], inside: &[u8]) -> bool
+    ensures { result ≡ frames_allow_of kind from.now inside.now }
+{
+    match kind {
+        TokenKind::Ident => is_listed(&["from", "to"], inside),
+        TokenKind::Whitespace | TokenKind::Percentage => true,
+        TokenKind::Delim => matches!(from, [b',', ..]),
+        _ => false,
+    }
+}
+
 /// Whether the scope may have a token of this kind.
 fn scope_allows(kind: TokenKind, from: &[u8]) -> bool
     ensures { result ≡ scope_allows_of kind from.now }
@@ -186,13 +257,19 @@ fn scope_allows(kind: TokenKind, from: &[u8]) -> bool
 }
 
 /// Whether a sheet may have a token of this kind, in which this is, anywhere.
-fn sheet_allows(functions: &[&str], pseudos: &[&str], kind: TokenKind, inside: &[u8]) -> bool
+fn sheet_allows(
+    functions: &[&str],
+    pseudos: &[&str],
+    media: &[&str],
+    kind: TokenKind,
+    inside: &[u8],
+) -> bool
     ensures { result ≡ sheet_allows_of (map (λ name. name.now) functions.now)
-        (map (λ name. name.now) pseudos.now) kind inside.now }
+        (map (λ name. name.now) pseudos.now) (map (λ name. name.now) media.now) kind inside.now }
 {
     match kind {
         TokenKind::Function => is_listed(functions, inside) || is_listed(pseudos, inside),
-        TokenKind::AtKeyword => spells(b"media", inside),
+        TokenKind::AtKeyword => group_of(media, inside).is_some(),
         TokenKind::Comment
         | TokenKind::BadString
         | TokenKind::Url
@@ -208,16 +285,17 @@ pub(crate) fn is_token_allowed(place: Place<'_>, after_colon: bool, token: &Toke
     ensures { result ≡ token_allowed (place_of place.entry) after_colon (token_of token.now) }
 {
     match place {
-        Place::Value(functions, strings) => {
-            value_allows(functions, strings, token.kind, inside(token))
-        }
+        Place::Value(place) => value_allows(place, token.kind, inside(token)),
         Place::Selector(pseudos) => {
             selector_allows(pseudos, after_colon, token.kind, token.from, inside(token))
         }
         Place::Media(words) => media_allows(words, token.kind, token.from, inside(token)),
+        Place::Supports => supports_allows(token.kind, token.from),
+        Place::Name => name_allows(token.kind),
+        Place::Frames => frames_allow(token.kind, token.from, inside(token)),
         Place::Scope => scope_allows(token.kind, token.from),
-        Place::Sheet(functions, pseudos) => {
-            sheet_allows(functions, pseudos, token.kind, inside(token))
+        Place::Sheet(functions, pseudos, media) => {
+            sheet_allows(functions, pseudos, media, token.kind, inside(token))
         }
     }
 }
@@ -259,15 +337,37 @@ pub(crate) fn are_tokens_allowed(place: Place<'_>, text: &[u8]) -> bool
 }
 
 /// Returns what a value of this property may have.
-pub(crate) fn place_of_value<'p>(policy: Policy<'p>, name: &[u8]) -> Place<'p>
-    ensures { let p = policy_of policy.entry in
-        place_of result ≡ in_value p.functions (is_listed_of p.strings name.now) }
+pub(crate) fn place_of_value<'p>(policy: Policy<'p>, name: &[u8], value: &[u8]) -> Place<'p>
+    ensures { place_of result ≡ place_of_value_text (policy_of policy.entry) name.now value.now }
 {
-    Place::Value(policy.functions, is_listed(policy.strings, name))
+    let sources = has_source(value);
+    Place::Value(ValuePlace {
+        functions: policy.functions,
+        strings: is_listed(policy.strings, name),
+        sources,
+        loads: sources && has_loader(value),
+        named: is_listed(policy.changes.named, name),
+        changes: policy.changes,
+    })
 }
 
-/// Whether the policy allows the declaration: its property is listed, it is closed and has nothing but
-/// bytes that may be written, each token of its value is allowed, and if it is important, that is, too.
+/// Whether the policy allows the property: it is listed, or it is a custom one whose name has the prefix.
+pub(crate) fn is_property(policy: Policy<'_>, name: &[u8]) -> bool
+    ensures { result ≡ is_property_of (policy_of policy.entry) name.now }
+{
+    is_listed(policy.properties, name) || is_custom(policy.changes, name)
+}
+
+/// Whether the policy allows each token of a value of this property.
+pub(crate) fn is_value_allowed(policy: Policy<'_>, name: &[u8], value: &[u8]) -> bool
+    ensures { result ≡ value_allowed (policy_of policy.entry) name.now value.now }
+{
+    are_tokens_allowed(place_of_value(policy, name, value), value)
+}
+
+/// Whether the policy allows the declaration: its property is listed or a custom one, it is closed and has
+/// nothing but bytes that may be written, each token of its value is allowed, and if it is important, that
+/// is, too. And its value is within the limit of the property, if that has one.
 pub fn is_allowed(policy: Policy<'_>, declaration: &Declaration<'_>) -> bool
     ensures { result ≡ is_allowed_of (policy_of policy.entry) (declaration_of declaration.now) }
 {
@@ -276,8 +376,9 @@ pub fn is_allowed(policy: Policy<'_>, declaration: &Declaration<'_>) -> bool
     declaration.closed
         && !ends_lone(value)
         && (policy.important || !declaration.important)
-        && is_listed(policy.properties, name)
+        && is_property(policy, name)
         && are_safe(name)
         && are_safe(value)
-        && are_tokens_allowed(place_of_value(policy, name), value)
+        && is_value_allowed(policy, name, value)
+        && is_within_limit(policy.limits, name, value)
 }

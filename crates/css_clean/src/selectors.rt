@@ -4,16 +4,17 @@ ghost use Rattle.css_text.specs.Reading.{each};
 ghost use Rattle.css_syntax.specs.DeclarationLists.{is_empty};
 ghost use Rattle.css_text.specs.Bytes.{starts_by};
 ghost use Rattle.css_clean.specs.Selectors.{is_escapable as is_escapable_byte, is_selector_safe as is_selector_safe_of};
-ghost use Rattle.css_clean.specs.Selectors.{begins_compound as begins_compound_of, selector_allowed};
+ghost use Rattle.css_clean.specs.Selectors.{begins_compound as begins_compound_of, selector_allowed, inner_allowed};
 ghost use Rattle.css_clean.specs.Selectors.{is_scope_text as is_scope_text_of, scope_of, is_scope as is_scope_of};
 ghost use Rattle.css_clean.specs.Selectors.{selector_ends as selector_ends_of};
 ghost use Rattle.css_clean.specs.Selectors.{goes_on as goes_on_of, next_selector, after_front as after_front_of};
 ghost use Rattle.css_clean.specs.Selectors.{is_under as is_under_of, fits as fits_of, past_child as past_child_of};
-ghost use Rattle.css_clean.specs.Selectors.{is_list_scoped as is_list_scoped_of, media_allowed};
+ghost use Rattle.css_clean.specs.Selectors.{is_list_scoped as is_list_scoped_of};
 ghost use Rattle.css_clean.specs.Views.{sheet_policy_of};
 
-use crate::policy::{Place, Policy, are_safe, are_tokens_allowed, is_safe_byte};
+use crate::policy::{Place, Policy, are_tokens_allowed, is_safe_byte};
 use crate::scopes::{is_read_under_scope, read_compound};
+use clean_values::selectors::is_selector_named;
 use css_selector_text::Selector as ReadSelector;
 use css_syntax::parts::{Stops, ends_at, read_parts};
 use css_syntax::quality::is_whole;
@@ -34,7 +35,8 @@ pub struct SheetPolicy<'p> {
     pub itself: bool,
     /// The names of pseudo-classes and pseudo-elements, with arguments or without.
     pub pseudos: &'p [&'p str],
-    /// The words of media queries.
+    /// The words of media queries and of conditions of `@container`; and `@supports`, `@container`, `@layer` and
+    /// `@keyframes`, if these at-rules are kept, too. Names of the last two get the prefix, and without one both are dropped.
     pub media: &'p [&'p str],
 }
 
@@ -48,10 +50,10 @@ pub(crate) struct Selector<'a> {
 }
 
 /// Whether a backslash may escape the byte.
-fn is_escapable(byte: u8) -> bool
+pub(crate) fn is_escapable(byte: u8) -> bool
     ensures { result ≡ is_escapable_byte byte }
 {
-    matches!(byte, b'!' | 35..=38 | 40..=47 | b':' | b'[' | b']')
+    matches!(byte, b'!' | 35..=38 | 40..=58 | b'[' | b']' | b'A'..=b'F' | b'a'..=b'f')
 }
 
 /// Whether an escape that may be written goes on here, after its backslash.
@@ -168,6 +170,15 @@ fn past_child(bytes: &[u8]) -> &[u8]
     }
 }
 
+/// Whether a selector may be under the scope, with the prefix of ids and classes.
+#[tactic(auto, unfolding(crate::specs::Selectors::inner_allowed))]
+fn is_inner_allowed(policy: SheetPolicy<'_>, bytes: &[u8]) -> bool
+    ensures { result ≡ inner_allowed (sheet_policy_of policy.entry) bytes.now }
+{
+    is_selector_allowed(policy, bytes)
+        && is_selector_named(policy.declarations.changes.prefix, bytes)
+}
+
 /// Whether nothing follows the scope, if that may be, or a space or ` > `, and then a selector that may be
 /// under it.
 fn is_under(policy: SheetPolicy<'_>, after: Option<&[u8]>) -> bool
@@ -175,7 +186,7 @@ fn is_under(policy: SheetPolicy<'_>, after: Option<&[u8]>) -> bool
 {
     match after {
         Some([]) => policy.itself,
-        Some([b' ', inner @ ..]) => is_selector_allowed(policy, past_child(inner)),
+        Some([b' ', inner @ ..]) => is_inner_allowed(policy, past_child(inner)),
         _ => false,
     }
 }
@@ -244,12 +255,4 @@ pub(crate) fn is_list_scoped(
         return Ok(false);
     }
     is_read_under_scope(alloc, policy.itself, &scope, text)
-}
-
-/// Whether a list of media queries may be written.
-pub(crate) fn is_media_allowed(policy: SheetPolicy<'_>, text: &str) -> bool
-    ensures { result ≡ media_allowed (sheet_policy_of policy.entry).media text.now }
-{
-    let bytes = text.as_bytes();
-    are_safe(bytes) && are_tokens_allowed(Place::Media(policy.media), bytes)
 }

@@ -2,28 +2,31 @@
 ghost use Rattle.std.specs.Prelude.{◌≡◌, ◌∷◌, [], ◌++◌, List, length, true, false, IfOk, OnOk, map, option_map, Some, string_bytes};
 ghost use Rattle.css_syntax.specs.Statements.{statements};
 ghost use Rattle.css_syntax.specs.Placed.{placed_statements};
-ghost use Rattle.css_syntax.specs.Printing.{list_text};
-ghost use Rattle.css_syntax.specs.Views.{at_rule_of, block_of, prelude_of, declaration_of, statement_of};
+ghost use Rattle.css_syntax.specs.Views.{at_rule_of, block_of, prelude_of, statement_of};
 ghost use Rattle.css_clean.specs.Sheets.{is_clean};
-ghost use Rattle.css_clean.specs.KeptSheets.{is_media as is_media_of, media_block as media_block_of};
+ghost use Rattle.std.specs.Cow.{cow_str_bytes};
+ghost use Rattle.css_clean.specs.Groups.{group_name};
 ghost use Rattle.css_clean.specs.KeptSheets.{kept_rule, kept_inner, kept_inner_statement, kept_statement};
-ghost use Rattle.css_clean.specs.KeptSheets.{KeptRule, kept_statements, group_of, kept_media};
+ghost use Rattle.css_clean.specs.KeptSheets.{KeptRule, kept_statements, group_with_rules, kept_group};
+ghost use Rattle.css_clean.specs.KeptSheets.{group_from, group_with, group_rule as group_rule_of};
 ghost use Rattle.css_clean.specs.KeptSheets.{rule_of, rules_text, sheet_text, kept_text, cleaned_sheet};
 ghost use Rattle.css_clean.specs.DroppedSheets.{whole_dropped, empty_dropped, stop_of_block as stop_of_block_of};
 ghost use Rattle.css_clean.specs.DroppedSheets.{dropped_rule, dropped_inner, dropped_inner_statement, dropped_group};
 ghost use Rattle.css_clean.specs.DroppedSheets.{dropped_statement, dropped_statements, dropped_of_sheet};
-ghost use Rattle.css_clean.specs.Views.{sheet_policy_of, dropped_of, place_of_part};
+ghost use Rattle.css_clean.specs.Views.{sheet_policy_of, dropped_of, place_of_part, written_of, group_text_of};
 
 use crate::check::is_clean_sheet;
 use crate::dropped::{Dropped, Reason};
-use crate::scoping::scoped_list;
-use crate::selectors::{SheetPolicy, is_media_allowed};
-use crate::style::{Cleaned, dropped_at, dropped_whole, printed, read_kept};
+use crate::groups::{Group, group_of, has_frames, name_of};
+use crate::preludes::{group_prelude, rule_prelude};
+use crate::selectors::SheetPolicy;
+use crate::style::{Cleaned, dropped_at, dropped_whole, read_kept};
+use crate::written::{Written, printed};
 use css_syntax::quality::is_whole;
 use css_syntax::statements::{FoundPart, read_next};
-use css_syntax::texts::spells;
-use css_syntax::{AtRule, Block, Declaration, RuleSet, Statement};
+use css_syntax::{AtRule, Block, RuleSet, Statement};
 use std::alloc::{AllocError, Global};
+use std::borrow::CowStr;
 use std::fmt::Write as _;
 
 /// A statement, and where the text ends in which it is.
@@ -33,6 +36,17 @@ struct Part<'a> {
     found: FoundPart<'a>,
     /// The offset of the end of that text in the whole sheet.
     stop: usize,
+}
+
+/// An at-rule with rules in its block that is allowed.
+#[derive(Drop)]
+struct GroupRule<'a> {
+    /// Which it is.
+    group: Group,
+    /// Its prelude, written anew.
+    prelude: CowStr<'a>,
+    /// Its block.
+    block: Block<'a>,
 }
 
 /// Drops the whole statement.
@@ -49,10 +63,10 @@ fn drop_whole(dropped: &mut Vec<Dropped>, part: Part<'_>, reason: Reason) -> Res
 fn drop_empty(
     dropped: &mut Vec<Dropped>,
     part: Part<'_>,
-    declarations: &[Declaration<'_>],
+    declarations: &[Written<'_>],
 ) -> Result<(), AllocError>
     ensures { OnOk result (map dropped_of dropped.new.items ≡ map dropped_of dropped.old.items
-        ++ empty_dropped (place_of_part part.entry) (map declaration_of declarations.now)) }
+        ++ empty_dropped (place_of_part part.entry) (map written_of declarations.now)) }
 {
     if declarations.is_empty() {
         return drop_whole(dropped, part, Reason::Empty);
@@ -73,10 +87,10 @@ fn push_rule(
     alloc: Global,
     out: &mut String,
     selectors: &str,
-    declarations: &[Declaration<'_>],
+    declarations: &[Written<'_>],
 ) -> Result<(), AllocError>
     ensures { OnOk result (string_bytes out.new ≡ string_bytes out.old
-        ++ rules_text (rule_of (Some selectors.now) (map declaration_of declarations.now))) }
+        ++ rules_text (rule_of (Some selectors.now) (map written_of declarations.now))) }
 {
     if declarations.is_empty() {
         return Ok(());
@@ -85,22 +99,24 @@ fn push_rule(
     writeln!(out, "{selectors} {{{list}}}")
 }
 
-/// Appends a rule, if its selectors are allowed and a declaration of it is.
+/// Appends a rule, if its selectors, or its frames, are allowed and a declaration of it is.
 fn keep_rule(
     alloc: Global,
     out: &mut String,
     dropped: &mut Vec<Dropped>,
     policy: SheetPolicy<'_>,
+    in_frames: bool,
     part: Part<'_>,
     rule: &RuleSet<'_>,
 ) -> Result<(), AllocError>
     ensures kept { OnOk result (string_bytes out.new ≡ string_bytes out.old ++ rules_text
-        (kept_rule (sheet_policy_of policy.entry) (prelude_of rule.now.prelude) (block_of rule.now.block))) }
+        (kept_rule (sheet_policy_of policy.entry) in_frames
+        (prelude_of rule.now.prelude) (block_of rule.now.block))) }
     ensures dropped { OnOk result (map dropped_of dropped.new.items ≡ map dropped_of dropped.old.items
-        ++ dropped_rule (sheet_policy_of policy.entry) (place_of_part part.entry)
+        ++ dropped_rule (sheet_policy_of policy.entry) in_frames (place_of_part part.entry)
         (prelude_of rule.now.prelude) (block_of rule.now.block)) }
 {
-    let Some(selectors) = scoped_list(alloc, policy, rule.prelude.text)? else {
+    let Some(selectors) = rule_prelude(alloc, policy, in_frames, rule.prelude.text)? else {
         return drop_whole(dropped, part, Reason::Selector);
     };
     let text = rule.block.text;
@@ -110,83 +126,145 @@ fn keep_rule(
     push_rule(alloc, out, selectors.as_str(), declarations.as_slice())
 }
 
-/// Appends a statement of the block of a media rule, if it is a rule that is kept.
+/// Appends a statement of the block of a group rule, if it is a rule that is kept.
 fn keep_inner_statement(
     alloc: Global,
     out: &mut String,
     dropped: &mut Vec<Dropped>,
     policy: SheetPolicy<'_>,
+    in_frames: bool,
     part: Part<'_>,
 ) -> Result<(), AllocError>
     ensures kept { OnOk result (string_bytes out.new ≡ string_bytes out.old ++ rules_text
-        (kept_inner_statement (sheet_policy_of policy.entry) (statement_of part.entry.found.part.statement))) }
+        (kept_inner_statement (sheet_policy_of policy.entry) in_frames
+        (statement_of part.entry.found.part.statement))) }
     ensures dropped { OnOk result (map dropped_of dropped.new.items ≡ map dropped_of dropped.old.items
-        ++ dropped_inner_statement (sheet_policy_of policy.entry) (place_of_part part.entry)
+        ++ dropped_inner_statement (sheet_policy_of policy.entry) in_frames (place_of_part part.entry)
         (statement_of part.entry.found.part.statement)) }
 {
     match part.found.part.statement {
-        Statement::RuleSet(rule) => keep_rule(alloc, out, dropped, policy, part, &rule),
+        Statement::RuleSet(rule) => {
+            keep_rule(alloc, out, dropped, policy, in_frames, part, &rule)
+        }
         Statement::AtRule(_) => drop_whole(dropped, part, Reason::AtRule),
         Statement::Skipped(_) => drop_whole(dropped, part, Reason::Broken),
     }
 }
 
-/// Appends the rules that are kept of the block of a media rule.
+/// Appends the rules that are kept of the block of a group rule.
 fn keep_inner(
     alloc: Global,
     out: &mut String,
     dropped: &mut Vec<Dropped>,
     policy: SheetPolicy<'_>,
+    in_frames: bool,
     text: &str,
     stop: usize,
 ) -> Result<(), AllocError>
     ensures kept { OnOk result (string_bytes out.new ≡ string_bytes out.old ++ rules_text
-        (kept_inner (sheet_policy_of policy.entry) (statements true text.now))) }
+        (kept_inner (sheet_policy_of policy.entry) in_frames (statements true text.now))) }
     ensures dropped { OnOk result (map dropped_of dropped.new.items ≡ map dropped_of dropped.old.items
-        ++ dropped_inner (sheet_policy_of policy.entry) stop (placed_statements true text.now)) }
+        ++ dropped_inner (sheet_policy_of policy.entry) in_frames stop (placed_statements true text.now)) }
 {
     let mut rest = text;
     'parts: while let Some(found) = read_next(rest, true) {
-        keep_inner_statement(alloc, out, dropped, policy, Part { found, stop })?;
+        let part = Part { found, stop };
+        keep_inner_statement(alloc, out, dropped, policy, in_frames, part)?;
         rest = found.rest;
     }
     Ok(())
 }
 
-/// Whether an at-rule is a media rule, with a query that is allowed.
-fn is_media(policy: SheetPolicy<'_>, rule: &AtRule<'_>) -> bool
-    ensures { result ≡ is_media_of (sheet_policy_of policy.entry) (at_rule_of rule.now) }
+/// Returns a group rule with this block, if it has one, and if its prelude is allowed.
+fn group_with_block<'a>(
+    group: Group,
+    prelude: Option<CowStr<'a>>,
+    block: Option<Block<'a>>,
+) -> Option<GroupRule<'a>>
+    ensures { option_map group_text_of result
+        ≡ group_from group (option_map cow_str_bytes prelude.entry) (option_map block_of block.entry) }
 {
-    spells("media", rule.name)
-        && is_whole(rule.prelude.quality)
-        && is_media_allowed(policy, rule.prelude.text)
+    Some(GroupRule {
+        group,
+        prelude: prelude?,
+        block: block?,
+    })
 }
 
-/// Returns the block of a media rule with a query that is allowed.
-fn media_block<'a>(policy: SheetPolicy<'_>, rule: &AtRule<'a>) -> Option<Block<'a>>
-    ensures { option_map block_of result
-        ≡ media_block_of (sheet_policy_of policy.entry) (at_rule_of rule.now) }
+/// Returns an at-rule as a group rule, if it is one, and its prelude is allowed.
+fn group_with_prelude<'a>(
+    alloc: Global,
+    policy: SheetPolicy<'_>,
+    group: Option<Group>,
+    rule: &AtRule<'a>,
+) -> Result<Option<GroupRule<'a>>, AllocError>
+    ensures { IfOk result (λ out. option_map group_text_of out
+        ≡ group_with (sheet_policy_of policy.entry) group (at_rule_of rule.now)) }
 {
-    if is_media(policy, rule) {
-        rule.block
-    } else {
-        None
+    let Some(group) = group else {
+        return Ok(None);
+    };
+    let prelude = group_prelude(alloc, policy, group, rule.prelude.text)?;
+    Ok(group_with_block(group, prelude, rule.block))
+}
+
+/// Returns an at-rule as a group rule, if it is one that is allowed, and its prelude is.
+fn group_rule<'a>(
+    alloc: Global,
+    policy: SheetPolicy<'_>,
+    rule: &AtRule<'a>,
+) -> Result<Option<GroupRule<'a>>, AllocError>
+    ensures { IfOk result (λ out. option_map group_text_of out
+        ≡ group_rule_of (sheet_policy_of policy.entry) (at_rule_of rule.now)) }
+{
+    if !is_whole(rule.prelude.quality) {
+        return Ok(None);
     }
+    group_with_prelude(
+        alloc,
+        policy,
+        group_of(policy.media, rule.name.as_bytes()),
+        rule,
+    )
 }
 
-/// Appends a media rule with these rules, if there is one.
-fn push_group(out: &mut String, query: &str, rules: &str) -> Result<(), AllocError>
-    ensures { (all : List KeptRule) → rules.now ≡ rules_text all → OnOk result
-        (string_bytes out.new ≡ string_bytes out.old ++ sheet_text (group_of query.now all)) }
+/// Appends a group rule with these rules, if there is one.
+fn push_group(out: &mut String, name: &str, prelude: &str, rules: &str) -> Result<(), AllocError>
+    ensures { (group : Group) (all : List KeptRule) → name.now ≡ group_name group
+        → rules.now ≡ rules_text all → OnOk result (string_bytes out.new
+        ≡ string_bytes out.old ++ sheet_text (group_with_rules group prelude.now all)) }
 {
     if rules.is_empty() {
         return Ok(());
     }
-    writeln!(out, "@media {query} {{\n{rules}}}")
+    writeln!(out, "@{name} {prelude} {{\n{rules}}}")
 }
 
-/// Appends a media rule, if its query is allowed and a rule of it is kept.
-fn keep_media(
+/// Appends what is kept of a group rule.
+fn keep_rules(
+    alloc: Global,
+    out: &mut String,
+    dropped: &mut Vec<Dropped>,
+    policy: SheetPolicy<'_>,
+    part: Part<'_>,
+    found: &GroupRule<'_>,
+) -> Result<(), AllocError>
+    ensures kept { OnOk result (string_bytes out.new ≡ string_bytes out.old ++ sheet_text
+        (kept_group (sheet_policy_of policy.entry) (Some (group_text_of found.now)))) }
+    ensures dropped { OnOk result (map dropped_of dropped.new.items ≡ map dropped_of dropped.old.items
+        ++ dropped_group (sheet_policy_of policy.entry) (place_of_part part.entry)
+        (Some (group_text_of found.now))) }
+{
+    let text = found.block.text;
+    let mut rules = String::new(alloc);
+    let stop = stop_of_block(part, text);
+    let in_frames = has_frames(found.group);
+    keep_inner(alloc, &mut rules, dropped, policy, in_frames, text, stop)?;
+    push_group(out, name_of(found.group), &found.prelude, rules.as_str())
+}
+
+/// Appends an at-rule, if it is a group rule that is allowed and a rule of it is kept.
+fn keep_at_rule(
     alloc: Global,
     out: &mut String,
     dropped: &mut Vec<Dropped>,
@@ -195,21 +273,19 @@ fn keep_media(
     rule: &AtRule<'_>,
 ) -> Result<(), AllocError>
     ensures kept { OnOk result (string_bytes out.new ≡ string_bytes out.old ++ sheet_text
-        (kept_media (sheet_policy_of policy.entry) (at_rule_of rule.now))) }
+        (kept_group (sheet_policy_of policy.entry)
+        (group_rule_of (sheet_policy_of policy.entry) (at_rule_of rule.now)))) }
     ensures dropped { OnOk result (map dropped_of dropped.new.items ≡ map dropped_of dropped.old.items
         ++ dropped_group (sheet_policy_of policy.entry) (place_of_part part.entry)
-        (media_block_of (sheet_policy_of policy.entry) (at_rule_of rule.now))) }
+        (group_rule_of (sheet_policy_of policy.entry) (at_rule_of rule.now))) }
 {
-    let Some(block) = media_block(policy, rule) else {
-        return drop_whole(dropped, part, Reason::AtRule);
-    };
-    let mut rules = String::new(alloc);
-    let stop = stop_of_block(part, block.text);
-    keep_inner(alloc, &mut rules, dropped, policy, block.text, stop)?;
-    push_group(out, rule.prelude.text, rules.as_str())
+    match group_rule(alloc, policy, rule)? {
+        Some(found) => keep_rules(alloc, out, dropped, policy, part, &found),
+        None => drop_whole(dropped, part, Reason::AtRule),
+    }
 }
 
-/// Appends a statement of a sheet, if it is a rule or a media rule that is kept.
+/// Appends a statement of a sheet, if it is a rule or a group rule that is kept.
 fn keep_statement(
     alloc: Global,
     out: &mut String,
@@ -224,8 +300,8 @@ fn keep_statement(
         (statement_of part.entry.found.part.statement)) }
 {
     match part.found.part.statement {
-        Statement::RuleSet(rule) => keep_rule(alloc, out, dropped, policy, part, &rule),
-        Statement::AtRule(rule) => keep_media(alloc, out, dropped, policy, part, &rule),
+        Statement::RuleSet(rule) => keep_rule(alloc, out, dropped, policy, false, part, &rule),
+        Statement::AtRule(rule) => keep_at_rule(alloc, out, dropped, policy, part, &rule),
         Statement::Skipped(_) => drop_whole(dropped, part, Reason::Broken),
     }
 }
@@ -254,7 +330,7 @@ fn keep_statements(
 }
 
 /// Returns what the policy allows of a sheet, in its order: rules under the scope, with the declarations
-/// that are allowed, and media rules with such rules. `html`, `body`, `:root` and `:host` at the front of a
+/// that are allowed, and group rules with such rules. `html`, `body`, `:root` and `:host` at the front of a
 /// selector mean the scope. A list of selectors is kept whole or not at all,
 /// and a rule without a declaration that is allowed is dropped. What is dropped is said with its place and
 /// its reason, in order, a rule after its declarations.

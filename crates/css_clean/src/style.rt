@@ -1,19 +1,24 @@
 //! Style attributes, cleaned.
-ghost use Rattle.std.specs.Prelude.{◌≡◌, ◌∷◌, [], ◌++◌, length, true, false, IfOk, OnOk, map, string_bytes};
-ghost use Rattle.css_syntax.specs.DeclarationLists.{items};
+ghost use Rattle.std.specs.Prelude.{◌≡◌, ◌∷◌, [], ◌++◌, Some, length, true, false, IfOk, OnOk, map, string_bytes};
+ghost use Rattle.css_syntax.specs.DeclarationLists.{declared, items};
 ghost use Rattle.css_syntax.specs.Placed.{placed_items};
 ghost use Rattle.css_syntax.specs.Printing.{list_text, printed_part};
 ghost use Rattle.css_syntax.specs.Views.{declaration_of, item_of};
+ghost use Rattle.css_clean.specs.Cleaning.{refusal, refusal_of, piece_dropped, kept_written, written as written_text};
 ghost use Rattle.css_clean.specs.Policies.{are_safe};
 ghost use Rattle.css_clean.specs.Cleaning.{kept, kept_item, cleaned, read_of, dropped_piece};
 ghost use Rattle.css_clean.specs.Cleaning.{dropped as dropped_in, dropped_of as dropped_of_text, item_dropped};
-ghost use Rattle.css_clean.specs.Views.{policy_of, dropped_of};
+ghost use Rattle.css_clean.specs.Views.{policy_of, dropped_of, written_of};
 
 use crate::dropped::{Dropped, Reason, reason_of};
-use crate::policy::{Policy, is_allowed};
+use crate::policy::Policy;
+use crate::written::{
+    Written, declaration, is_kept, is_new, printed, renamed, rewritten, without_escapes,
+};
+use clean_values::checks::changes_nothing;
 use css_syntax::declarations::read_part;
 use css_syntax::laws::printed_declarations_read_back;
-use css_syntax::{Declaration, DeclarationList, Item};
+use css_syntax::{Declaration, Item};
 use std::alloc::{AllocError, Global};
 
 /// What is kept of a text, and what is dropped.
@@ -37,9 +42,88 @@ pub(crate) fn dropped_at(stop: usize, from: &str, text: &str, reason: Reason) ->
     }
 }
 
-/// Appends a declaration that the policy allows, or why an item is dropped.
+/// Appends a declaration that the policy keeps. Returns why it does not, or `None`.
+fn keep<'a>(
+    alloc: Global,
+    out: &mut Vec<Written<'a>>,
+    policy: Policy<'_>,
+    is_new: bool,
+    one: Written<'a>,
+) -> Result<Option<Reason>, AllocError>
+    ensures kept { OnOk result (map written_of out.new.items ≡ map written_of out.old.items
+        ++ kept_written (policy_of policy.entry) is_new (Some (written_of one.entry))) }
+    ensures refused { let d = written_of one.entry in
+        IfOk result (λ reason. reason ≡ refusal_of (policy_of policy.entry) is_new d (Some d)) }
+{
+    if is_kept(alloc, policy, is_new, &declaration(&one))? {
+        out.push(one)?;
+        return Ok(None);
+    }
+    Ok(Some(reason_of(policy, &declaration(&one))))
+}
+
+/// Appends a declaration without escapes that, written anew, the policy keeps. Returns why it does not, or `None`.
+fn keep_plain<'a>(
+    alloc: Global,
+    out: &mut Vec<Written<'a>>,
+    policy: Policy<'_>,
+    is_new: bool,
+    plain: Written<'a>,
+) -> Result<Option<Reason>, AllocError>
+    ensures kept { let p = policy_of policy.entry in let d = written_of plain.entry in
+        OnOk result (map written_of out.new.items
+        ≡ map written_of out.old.items ++ kept_written p is_new (written_text p.changes d)) }
+    ensures refused { let p = policy_of policy.entry in let d = written_of plain.entry in
+        IfOk result (λ reason. reason ≡ refusal_of p is_new d (written_text p.changes d)) }
+{
+    if changes_nothing(policy.changes) {
+        return keep(alloc, out, policy, is_new, plain);
+    }
+    let Some(one) = rewritten(alloc, policy.changes, &plain)? else {
+        let named = renamed(alloc, policy.changes, &declaration(&plain))?;
+        return Ok(Some(reason_of(policy, &declaration(&named))));
+    };
+    keep(alloc, out, policy, is_new, one)
+}
+
+/// Appends a declaration that, written anew without escapes, the policy keeps. Returns why it does not, or `None`.
+fn keep_declaration<'a>(
+    alloc: Global,
+    out: &mut Vec<Written<'a>>,
+    policy: Policy<'_>,
+    found: &Declaration<'a>,
+) -> Result<Option<Reason>, AllocError>
+    ensures kept { OnOk result (map written_of out.new.items ≡ map written_of out.old.items
+        ++ kept_item (policy_of policy.entry) (declared (declaration_of found.now))) }
+    ensures refused { IfOk result (λ reason. reason
+        ≡ refusal (policy_of policy.entry) (declaration_of found.now)) }
+{
+    let plain = without_escapes(alloc, found)?;
+    let is_new = is_new(policy.changes, found);
+    keep_plain(alloc, out, policy, is_new, plain)
+}
+
+/// Appends a piece that is dropped, if there is a reason.
+fn push_dropped(
+    dropped: &mut Vec<Dropped>,
+    stop: usize,
+    from: &str,
+    text: &str,
+    reason: Option<Reason>,
+) -> Result<(), AllocError>
+    ensures { OnOk result (map dropped_of dropped.new.items ≡ map dropped_of dropped.old.items
+        ++ piece_dropped stop from.now text.now reason) }
+{
+    if let Some(reason) = reason {
+        dropped.push(dropped_at(stop, from, text, reason))?;
+    }
+    Ok(())
+}
+
+/// Appends a declaration that the policy keeps, or why an item is dropped.
 fn push_item<'a>(
-    out: &mut Vec<Declaration<'a>>,
+    alloc: Global,
+    out: &mut Vec<Written<'a>>,
     dropped: &mut Vec<Dropped>,
     policy: Policy<'_>,
     stop: usize,
@@ -47,18 +131,15 @@ fn push_item<'a>(
     text: &str,
     item: Item<'a>,
 ) -> Result<(), AllocError>
-    ensures kept { OnOk result (map declaration_of out.new.items
-        ≡ map declaration_of out.old.items ++ kept_item (policy_of policy.entry) (item_of item.entry)) }
+    ensures kept { OnOk result (map written_of out.new.items
+        ≡ map written_of out.old.items ++ kept_item (policy_of policy.entry) (item_of item.entry)) }
     ensures dropped { OnOk result (map dropped_of dropped.new.items ≡ map dropped_of dropped.old.items
         ++ item_dropped (policy_of policy.entry) stop from.now text.now (item_of item.entry)) }
 {
     match item {
-        Item::Declaration(declaration) => {
-            if is_allowed(policy, &declaration) {
-                out.push(declaration)?;
-            } else {
-                dropped.push(dropped_at(stop, from, text, reason_of(policy, &declaration)))?;
-            }
+        Item::Declaration(found) => {
+            let reason = keep_declaration(alloc, out, policy, &found)?;
+            push_dropped(dropped, stop, from, text, reason)?;
         }
         Item::AtRule(_) => dropped.push(dropped_at(stop, from, text, Reason::AtRule))?,
         Item::Skipped(_) => dropped.push(dropped_at(stop, from, text, Reason::Broken))?,
@@ -75,8 +156,8 @@ pub(crate) fn read_kept<'a>(
     text: &'a str,
     in_block: bool,
     stop: usize,
-) -> Result<Vec<Declaration<'a>>, AllocError>
-    ensures kept { IfOk result (λ out. map declaration_of out.items
+) -> Result<Vec<Written<'a>>, AllocError>
+    ensures kept { IfOk result (λ out. map written_of out.items
         ≡ kept (policy_of policy.entry) (items in_block text.now)) }
     ensures dropped { OnOk result (map dropped_of dropped.new.items ≡ map dropped_of dropped.old.items
         ++ dropped_in (policy_of policy.entry) stop (placed_items in_block text.now)) }
@@ -85,6 +166,7 @@ pub(crate) fn read_kept<'a>(
     let mut rest = text;
     'parts: while let Some(found) = read_part(rest, in_block) {
         push_item(
+            alloc,
             &mut out,
             dropped,
             policy,
@@ -96,14 +178,6 @@ pub(crate) fn read_kept<'a>(
         rest = found.rest;
     }
     Ok(out)
-}
-
-/// Returns declarations, printed.
-pub(crate) fn printed(alloc: Global, declarations: &[Declaration<'_>]) -> Result<String, AllocError>
-    ensures { IfOk result (λ out. string_bytes out ≡ list_text (map declaration_of declarations.now)) }
-{
-    let list = DeclarationList { declarations };
-    format!(in alloc; "{list}")
 }
 
 /// Cleans a text of any length.

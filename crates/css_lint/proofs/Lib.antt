@@ -1,2 +1,3 @@
 pub mod LateLemmas
-pub mod RepeatLemmas
+pub mod KeyLemmas
+pub mod PlacedLemmas

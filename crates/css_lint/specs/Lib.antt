@@ -1,4 +1,11 @@
 pub mod Places
+pub mod Words
+pub mod Keys
+pub mod PlacedRules
+pub mod PlacedViews
+pub mod InBlocks
 pub mod Repeats
 pub mod Late
+pub mod InRules
 pub mod Relations
+pub mod Refused

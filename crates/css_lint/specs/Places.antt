@@ -24,8 +24,11 @@ abbrev pub is_related : Kind → Bool
 is_related kinds.LateCharset = true
 is_related kinds.LateImport = true
 is_related kinds.LateNamespace = true
+is_related kinds.ImportantInKeyframes = true
 is_related kinds.RepeatedImport = true
+is_related kinds.RepeatedProperty = true
 is_related kinds.RepeatedRule = true
+is_related kinds.RepeatedSelector = true
 is_related _ = false
 
 -- the findings that are guesses

@@ -11,6 +11,9 @@ use css_syntax::{AtRule, Declaration, Item, closed_value};
 use std::alloc::AllocError;
 use std::borrow::CowStr;
 
+/// The at-rules that standards had and no longer have.
+const DEPRECATED: &str = "document nest viewport";
+
 /// What an at-rule is in, and where it is.
 #[derive(Clone, Copy)]
 pub(crate) struct PlacedRule<'t> {
@@ -55,6 +58,17 @@ pub(crate) fn is_among(name: &str, names: &str) -> bool {
     name.eq_ignore_ascii_case(rest)
 }
 
+/// Whether an at-rule is a layer without a name.
+fn is_anonymous_layer(placed: &PlacedRule<'_>) -> bool {
+    is_among(placed.rule.name, "layer") && placed.rule.prelude.text.is_empty()
+}
+
+/// Returns the offset after the name of an at-rule.
+fn name_end(placed: &PlacedRule<'_>) -> usize {
+    let size = placed.rule.name.len().saturating_add(1);
+    placed.piece.start().saturating_add(size)
+}
+
 impl<'t> Linter<'t> {
     /// Returns a declaration whose value nothing of is open, as one of those that may be lost.
     fn declared(
@@ -91,15 +105,17 @@ impl<'t> Linter<'t> {
             }
         }
         let lower = name.to_ascii_lowercase(self.alloc)?;
-        if self.words.at_rules.knows(lower.as_str()) {
+        if is_among(name, DEPRECATED) {
+            self.report(Kind::DeprecatedAtRule, start, name_end(placed))?;
+        } else if self.words.at_rules.knows(lower.as_str()) {
             self.report_all(Kind::UnsupportedAtRule, start, end)?;
         } else {
             let near = self.words.at_rules.nearest(self.alloc, lower.as_str())?;
-            let past = start.saturating_add(name.len()).saturating_add(1);
+            let past = name_end(placed);
             self.found.push(Finding::named(Kind::UnknownAtRule, start, past, "@", near))?;
         }
         if placed.rule.block.is_some()
-            && is_nothing_without_rules(name)
+            && (is_nothing_without_rules(name) || is_anonymous_layer(placed))
             && ends_empty(placed.piece.text)
         {
             self.report(Kind::EmptyRule, start, end)?;
@@ -107,7 +123,8 @@ impl<'t> Linter<'t> {
         Ok(())
     }
 
-    /// Reports the mistakes of a declaration, and adds it to those that may be lost.
+    /// Reports the mistakes of a declaration, and adds it to those that may be lost. The custom properties of
+    /// a rule are relations of places.
     fn declaration_item(
         &mut self,
         one: &Declaration<'t>,
@@ -118,7 +135,9 @@ impl<'t> Linter<'t> {
     ) -> Result<(), AllocError> {
         if is_custom(one.name) {
             self.declaration(one, one.name, piece, place)?;
-            declared.push(self.declared(one, one.name, piece, others)?)?;
+            if place == Place::AtRule {
+                declared.push(self.declared(one, one.name, piece, others)?)?;
+            }
         } else {
             let name = one.name.to_ascii_lowercase(self.alloc)?;
             self.declaration(one, name.as_str(), piece, place)?;

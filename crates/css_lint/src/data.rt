@@ -268,28 +268,28 @@ pub const PSEUDO_ELEMENTS: &str = "\
     view-transition view-transition-group view-transition-group-children \
     view-transition-image-pair view-transition-new view-transition-old";
 
-/// The functions of values: those of MDN, of newer modules of CSS, and of filters of old browsers.
+/// The functions of values: those of MDN, of newer modules of CSS, and of filters and gradients of
+/// old browsers.
 pub const FUNCTIONS: &str = "\
-    abs accumulate acos add alpha anchor anchor-size and annotation arc asin at-rule atan \
-    atan2 attr autospace blur brightness calc calc-mix calc-size character-variant chroma \
-    circle clamp color color-layers color-mix conic-gradient container container-progress \
-    content contrast contrast-color control control-point corner corners cos counter counters \
-    cross cross-fade cubic-bezier device-cmyk domain drop-shadow dropshadow \
-    dynamic-range-limit-mix element ellipse emboss engrave env exp expression filter first \
-    first-valid fit-content fliph flipv font-format font-tech format glow gradient gray \
-    grayscale historical-forms hsl hsla hue hue-rotate hwb hypot ident if image image-set \
-    inherit inset invert lab last layer lch leader light light-dark linear linear-gradient \
-    local log mask matrix matrix3d max max-content-min media media-document media-progress min \
-    minmax mod not nth-item oklab oklch opacity or ornaments paint palette-mix param path \
-    perspective polygon pow progress radial-gradient random random-item ray rect regexp rem \
-    repeat repeating-conic-gradient repeating-linear-gradient repeating-radial-gradient \
-    reversed rgb rgba rotate rotate3d rotatex rotatey rotatez round running saturate scale \
-    scale3d scalex scaley scalez scroll selector sepia shadow shape sibling-count \
-    sibling-index sign sin skew skewx skewy snap snap-block snap-inline snapinterval snaplist \
-    spring sqrt src start steps string stripes style styleset stylistic stylize superellipse \
-    supports swash symbols tan target-counter target-counters target-text tech toggle \
-    translate translate3d translatex translatey translatez type url url-prefix var view wave \
-    wq xray xywh";
+    abs accumulate acos add alpha anchor anchor-size and annotation arc asin at-rule atan atan2 \
+    attr autospace blur brightness calc calc-mix calc-size character-variant chroma circle clamp \
+    color color-layers color-mix color-stop conic-gradient container container-progress content \
+    contrast contrast-color control control-point corner corners cos counter counters cross \
+    cross-fade cubic-bezier device-cmyk domain drop-shadow dropshadow dynamic-range-limit-mix \
+    element ellipse emboss engrave env exp expression filter first first-valid fit-content fliph \
+    flipv font-format font-tech format from glow gradient gray grayscale historical-forms hsl \
+    hsla hue hue-rotate hwb hypot ident if image image-set inherit inset invert lab last layer \
+    lch leader light light-dark linear linear-gradient local log mask matrix matrix3d max \
+    max-content-min media media-document media-progress min minmax mod not nth-item oklab oklch \
+    opacity or ornaments paint palette-mix param path perspective polygon pow progress \
+    radial-gradient random random-item ray rect regexp rem repeat repeating-conic-gradient \
+    repeating-linear-gradient repeating-radial-gradient reversed rgb rgba rotate rotate3d rotatex \
+    rotatey rotatez round running saturate scale scale3d scalex scaley scalez scroll selector \
+    sepia shadow shape sibling-count sibling-index sign sin skew skewx skewy snap snap-block \
+    snap-inline snapinterval snaplist spring sqrt src start steps string stripes style styleset \
+    stylistic stylize superellipse supports swash symbols tan target-counter target-counters \
+    target-text tech to toggle translate translate3d translatex translatey translatez type url \
+    url-prefix var view wave wq xray xywh";
 
 /// The units of dimensions.
 pub const UNITS: &str = "\

@@ -317,16 +317,17 @@ impl<'t> Linter<'t> {
         if !one.closed {
             self.not_closed(piece)?;
         }
-        if one.important && self.in_keyframes {
-            self.report(Kind::ImportantInKeyframes, piece.start(), piece.end)?;
-        }
         self.property_name(name, piece, place)?;
         self.value(name, value_of(one, piece))?;
         if is_custom(name) {
             return Ok(());
         }
-        if place == Place::Rule && one.closed {
-            self.known_value(name, value_of(one, piece))?;
+        if one.closed {
+            if place == Place::Rule {
+                self.known_value(name, value_of(one, piece))?;
+            } else {
+                self.descriptor(name, value_of(one, piece))?;
+            }
         }
         self.unmarked(one, piece)?;
         self.merged(piece)?;

@@ -114,7 +114,6 @@ impl<'t> Linter<'t> {
     pub(crate) fn keyframes(&mut self, piece: Piece<'t>) -> Result<(), AllocError> {
         let mut met = BTreeMap::new(self.alloc);
         let mut rest = piece.text;
-        self.in_keyframes = true;
         for _ in 0..rest.len() {
             let Some(found) = read_next(rest, false) else {
                 break;
@@ -124,7 +123,6 @@ impl<'t> Linter<'t> {
                 self.keyframe(rule, &found, piece.end, &mut met)?;
             }
         }
-        self.in_keyframes = false;
         Ok(())
     }
 }

@@ -1,6 +1,7 @@
 //! The kinds of what is found, each in words.
 ghost use Rattle.std.specs.Prelude.{◌≡◌};
 ghost use Rattle.css_lint.specs.Places.{is_related as is_related_of};
+ghost use Rattle.css_lint.specs.Words.{words_of};
 
 /// How bad it is.
 #[derive(Clone, Copy)]
@@ -16,9 +17,7 @@ pub enum Severity {
 /// What a kind is.
 #[derive(Clone, Copy)]
 pub struct About {
-    /// The reason in a few words.
-    pub words: &'static str,
-    /// What that means, in a sentence.
+    /// What it means, in a sentence.
     pub text: &'static str,
     /// How bad it is.
     pub severity: Severity,
@@ -41,6 +40,8 @@ pub enum Kind {
     BrokenDeclaration,
     /// No `*/` ends the comment.
     CommentNotClosed,
+    /// Standards had this at-rule, and browsers do not read it.
+    DeprecatedAtRule,
     /// No device is of this type, and browsers know it only for old sheets.
     DeprecatedMediaType,
     /// A rule without a declaration does nothing.
@@ -57,7 +58,7 @@ pub enum Kind {
     InvalidKeyframe,
     /// `and`, `or` and `not` have a blank before a parenthesis.
     InvalidMediaQuery,
-    /// The name that `@property` registers begins with `--`, and its block has `syntax` and `inherits`.
+    /// `@property` registers a name with `--`, and a syntax of types that are known.
     InvalidPropertyRule,
     /// Browsers leave out a rule with an invalid selector.
     InvalidSelector,
@@ -87,6 +88,8 @@ pub enum Kind {
     RepeatedImport,
     /// The same keyframe is there again.
     RepeatedKeyframe,
+    /// The same custom property is set before in the block.
+    RepeatedProperty,
     /// A rule before it in the same block has the same selectors.
     RepeatedRule,
     /// The same selector is in the list again.
@@ -103,6 +106,8 @@ pub enum Kind {
     UnknownAtRule,
     /// The name is not among those of standards and browsers.
     UnknownFunction,
+    /// A list says the order of layers, and none names this one.
+    UnknownLayer,
     /// The name is not among those of standards and browsers.
     UnknownMediaFeature,
     /// The name is not among those of standards and browsers.
@@ -138,12 +143,13 @@ pub enum Kind {
 }
 
 /// All kinds, in the order of their words; those at the end are found only if they are asked for.
-pub const KINDS: [Kind; 52] = [
+pub const KINDS: [Kind; 55] = [
     Kind::BadString,
     Kind::BadUrl,
     Kind::BlockNotClosed,
     Kind::BrokenDeclaration,
     Kind::CommentNotClosed,
+    Kind::DeprecatedAtRule,
     Kind::DeprecatedMediaType,
     Kind::EmptyRule,
     Kind::GradientDirection,
@@ -167,6 +173,7 @@ pub const KINDS: [Kind; 52] = [
     Kind::RepeatedFont,
     Kind::RepeatedImport,
     Kind::RepeatedKeyframe,
+    Kind::RepeatedProperty,
     Kind::RepeatedRule,
     Kind::RepeatedSelector,
     Kind::SemicolonMissing,
@@ -175,6 +182,7 @@ pub const KINDS: [Kind; 52] = [
     Kind::UnitMissing,
     Kind::UnknownAtRule,
     Kind::UnknownFunction,
+    Kind::UnknownLayer,
     Kind::UnknownMediaFeature,
     Kind::UnknownProperty,
     Kind::UnknownPseudoClass,
@@ -211,376 +219,408 @@ impl Kind {
     {
         matches!(
             self,
-            Kind::LateCharset
+            Kind::ImportantInKeyframes
+                | Kind::LateCharset
                 | Kind::LateImport
                 | Kind::LateNamespace
                 | Kind::RepeatedImport
+                | Kind::RepeatedProperty
                 | Kind::RepeatedRule
+                | Kind::RepeatedSelector
         )
+    }
+
+    /// Returns the kind in a few words.
+    pub fn words(self) -> &'static str
+        ensures { result.now ≡ words_of self }
+    {
+        match self {
+            Kind::BadString => "bad string",
+            Kind::BadUrl => "bad url",
+            Kind::BlockNotClosed => "block not closed",
+            Kind::BrokenDeclaration => "broken declaration",
+            Kind::CommentNotClosed => "comment not closed",
+            Kind::DeprecatedAtRule => "deprecated at-rule",
+            Kind::DeprecatedMediaType => "deprecated media type",
+            Kind::EmptyRule => "empty rule",
+            Kind::GradientDirection => "gradient direction",
+            Kind::GridAreas => "grid areas",
+            Kind::ImportantInKeyframes => "important in keyframes",
+            Kind::InvalidColor => "invalid color",
+            Kind::InvalidKeyframe => "invalid keyframe",
+            Kind::InvalidMediaQuery => "invalid media query",
+            Kind::InvalidPropertyRule => "invalid property rule",
+            Kind::InvalidSelector => "invalid selector",
+            Kind::InvalidValue => "invalid value",
+            Kind::IrregularWhitespace => "irregular whitespace",
+            Kind::LateCharset => "late charset",
+            Kind::LateImport => "late import",
+            Kind::LateNamespace => "late namespace",
+            Kind::MisspeltImportant => "misspelt important",
+            Kind::MissingVar => "missing var",
+            Kind::NoBlock => "no block",
+            Kind::OverriddenDeclaration => "overridden declaration",
+            Kind::RepeatedDeclaration => "repeated declaration",
+            Kind::RepeatedFont => "repeated font",
+            Kind::RepeatedImport => "repeated import",
+            Kind::RepeatedKeyframe => "repeated keyframe",
+            Kind::RepeatedProperty => "repeated property",
+            Kind::RepeatedRule => "repeated rule",
+            Kind::RepeatedSelector => "repeated selector",
+            Kind::SemicolonMissing => "semicolon missing",
+            Kind::StrayBracket => "stray bracket",
+            Kind::TooDeep => "too deep",
+            Kind::UnitMissing => "unit missing",
+            Kind::UnknownAtRule => "unknown at-rule",
+            Kind::UnknownFunction => "unknown function",
+            Kind::UnknownLayer => "unknown layer",
+            Kind::UnknownMediaFeature => "unknown media feature",
+            Kind::UnknownProperty => "unknown property",
+            Kind::UnknownPseudoClass => "unknown pseudo-class",
+            Kind::UnknownPseudoElement => "unknown pseudo-element",
+            Kind::UnknownType => "unknown type",
+            Kind::UnknownUnit => "unknown unit",
+            Kind::UnknownVariable => "unknown variable",
+            Kind::UnmatchableNth => "unmatchable nth",
+            Kind::UnspacedOperator => "unspaced operator",
+            Kind::ValueNotClosed => "value not closed",
+            Kind::UnsupportedAtRule => "unsupported at-rule",
+            Kind::UnsupportedCondition => "unsupported condition",
+            Kind::UnsupportedHack => "unsupported hack",
+            Kind::UnsupportedNestedRule => "unsupported nested rule",
+            Kind::UnsupportedPseudoClass => "unsupported pseudo-class",
+            Kind::UnsupportedSelector => "unsupported selector",
+        }
     }
 
     /// Returns what the kind is.
     pub fn about(self) -> About {
         match self {
             Kind::BadString => About {
-                words: "bad string",
                 text: "a string has no end on its line",
                 severity: Severity::Error,
                 wrong: "a { content: 'x\n; top: 0 }",
                 right: "a { content: 'x'; top: 0 }",
             },
             Kind::BadUrl => About {
-                words: "bad url",
                 text: "a url without quotes has no end, or a blank or a quote in it",
                 severity: Severity::Error,
                 wrong: "a { background: url(a b.png) }",
                 right: "a { background: url(a%20b.png) }",
             },
             Kind::BlockNotClosed => About {
-                words: "block not closed",
                 text: "no `}` ends the block of this rule",
                 severity: Severity::Error,
                 wrong: "a { top: 0",
                 right: "a { top: 0 }",
             },
             Kind::BrokenDeclaration => About {
-                words: "broken declaration",
                 text: "this is not a declaration: it has no colon or no value, for example",
                 severity: Severity::Error,
                 wrong: "a { top 0; left: 0 }",
                 right: "a { top: 0; left: 0 }",
             },
             Kind::CommentNotClosed => About {
-                words: "comment not closed",
                 text: "no `*/` ends the comment",
                 severity: Severity::Error,
                 wrong: "a { top: 0 } /* b",
                 right: "a { top: 0 } /* b */",
             },
+            Kind::DeprecatedAtRule => About {
+                text: "standards had this at-rule, and browsers do not read it",
+                severity: Severity::Warning,
+                wrong: "@viewport { width: device-width }",
+                right: "a { top: 0 }",
+            },
             Kind::DeprecatedMediaType => About {
-                words: "deprecated media type",
                 text: "no device is of this type, and browsers know it only for old sheets",
                 severity: Severity::Warning,
                 wrong: "@media tv { a { top: 0 } }",
                 right: "@media screen { a { top: 0 } }",
             },
             Kind::EmptyRule => About {
-                words: "empty rule",
                 text: "a rule without a declaration does nothing",
                 severity: Severity::Warning,
                 wrong: "a { }",
                 right: "a { top: 0 }",
             },
             Kind::GradientDirection => About {
-                words: "gradient direction",
                 text: "the direction of a gradient is written with `to`, such as `to top`",
                 severity: Severity::Error,
                 wrong: "a { background: linear-gradient(top, red, blue) }",
                 right: "a { background: linear-gradient(to top, red, blue) }",
             },
             Kind::GridAreas => About {
-                words: "grid areas",
                 text: "the rows of a grid have the same number of cells",
                 severity: Severity::Error,
                 wrong: "a { grid-template-areas: 'a a' 'b' }",
                 right: "a { grid-template-areas: 'a a' 'b b' }",
             },
             Kind::ImportantInKeyframes => About {
-                words: "important in keyframes",
                 text: "browsers leave out a declaration with `!important` in keyframes",
                 severity: Severity::Error,
                 wrong: "@keyframes k { to { top: 0 !important } }",
                 right: "@keyframes k { to { top: 0 } }",
             },
             Kind::InvalidColor => About {
-                words: "invalid color",
                 text: "a colour has three, four, six or eight hexadecimal digits",
                 severity: Severity::Error,
                 wrong: "a { color: #12345 }",
                 right: "a { color: #123456 }",
             },
             Kind::InvalidKeyframe => About {
-                words: "invalid keyframe",
                 text: "a keyframe is `from`, `to` or a percentage from 0% to 100%",
                 severity: Severity::Error,
                 wrong: "@keyframes k { form { top: 0 } }",
                 right: "@keyframes k { from { top: 0 } }",
             },
             Kind::InvalidMediaQuery => About {
-                words: "invalid media query",
                 text: "`and`, `or` and `not` have a blank before a parenthesis",
                 severity: Severity::Error,
                 wrong: "@media screen and(min-width: 1px) { a { top: 0 } }",
                 right: "@media screen and (min-width: 1px) { a { top: 0 } }",
             },
             Kind::InvalidPropertyRule => About {
-                words: "invalid property rule",
-                text: "the name that `@property` registers begins with `--`",
+                text: "`@property` registers a name with `--`, and a syntax of types that are known",
                 severity: Severity::Error,
                 wrong: "@property x { syntax: '*'; inherits: true }",
                 right: "@property --x { syntax: '*'; inherits: true }",
             },
             Kind::InvalidSelector => About {
-                words: "invalid selector",
                 text: "browsers leave out a rule with an invalid selector",
                 severity: Severity::Error,
                 wrong: "a, { top: 0 }",
                 right: "a, b { top: 0 }",
             },
             Kind::InvalidValue => About {
-                words: "invalid value",
                 text: "the property takes no such value, neither by the standards nor in browsers",
                 severity: Severity::Error,
                 wrong: "a { color: reed }",
                 right: "a { color: red }",
             },
             Kind::IrregularWhitespace => About {
-                words: "irregular whitespace",
                 text: "this is not the white space of CSS, but a part of a name",
                 severity: Severity::Error,
                 wrong: "a { top:\u{a0}0 }",
                 right: "a { top: 0 }",
             },
             Kind::LateCharset => About {
-                words: "late charset",
                 text: "`@charset` counts only as the first bytes of a sheet",
                 severity: Severity::Warning,
                 wrong: "a { top: 0 }\n@charset 'utf-8';",
                 right: "@charset 'utf-8';\na { top: 0 }",
             },
             Kind::LateImport => About {
-                words: "late import",
                 text: "no rule may be before an `@import` but names of layers, and no rule between two",
                 severity: Severity::Error,
                 wrong: "a { top: 0 }\n@import 'b.css';",
                 right: "@import 'b.css';\na { top: 0 }",
             },
             Kind::LateNamespace => About {
-                words: "late namespace",
                 text: "no rule may be before an `@namespace` but an `@import` and names of layers",
                 severity: Severity::Error,
                 wrong: "a { top: 0 }\n@namespace s url(http://www.w3.org/2000/svg);",
                 right: "@namespace s url(http://www.w3.org/2000/svg);\na { top: 0 }",
             },
             Kind::MisspeltImportant => About {
-                words: "misspelt important",
                 text: "a word after `!` is nearly `important`",
                 severity: Severity::Error,
                 wrong: "a { top: 0 !importnat }",
                 right: "a { top: 0 !important }",
             },
             Kind::MissingVar => About {
-                words: "missing var",
                 text: "a custom property is referred to by `var()`",
                 severity: Severity::Error,
                 wrong: "a { --x: red; color: --x }",
                 right: "a { --x: red; color: var(--x) }",
             },
             Kind::NoBlock => About {
-                words: "no block",
                 text: "a rule has no `{`",
                 severity: Severity::Error,
                 wrong: "a { top: 0 }\nb",
                 right: "a { top: 0 }\nb { top: 0 }",
             },
             Kind::OverriddenDeclaration => About {
-                words: "overridden declaration",
                 text: "a shorthand after it in the block sets what this one does",
                 severity: Severity::Warning,
                 wrong: "a { margin-top: 0; margin: 1px }",
                 right: "a { margin: 1px; margin-top: 0 }",
             },
             Kind::RepeatedDeclaration => About {
-                words: "repeated declaration",
                 text: "the same property is set again in the block, and this one is lost",
                 severity: Severity::Warning,
                 wrong: "a { top: 0; left: 0; top: 1px }",
                 right: "a { left: 0; top: 1px }",
             },
             Kind::RepeatedFont => About {
-                words: "repeated font",
                 text: "the same font is in the list again",
                 severity: Severity::Warning,
                 wrong: "a { font-family: Times, serif, Times }",
                 right: "a { font-family: Times, serif }",
             },
             Kind::RepeatedImport => About {
-                words: "repeated import",
                 text: "the same sheet is imported again with the same conditions",
                 severity: Severity::Warning,
                 wrong: "@import 'a.css';\n@import 'a.css';",
                 right: "@import 'a.css';\n@import 'b.css';",
             },
             Kind::RepeatedKeyframe => About {
-                words: "repeated keyframe",
                 text: "the same keyframe is there again",
                 severity: Severity::Warning,
                 wrong: "@keyframes k { to { top: 0 } to { left: 0 } }",
                 right: "@keyframes k { from { top: 0 } to { left: 0 } }",
             },
+            Kind::RepeatedProperty => About {
+                text: "the same custom property is set before in the block",
+                severity: Severity::Warning,
+                wrong: "a { --x: 0; --x: 1 }",
+                right: "a { --x: 1 }",
+            },
             Kind::RepeatedRule => About {
-                words: "repeated rule",
                 text: "a rule before it in the same block has the same selectors",
                 severity: Severity::Note,
                 wrong: "a { top: 0 }\nb { top: 0 }\na { left: 0 }",
                 right: "a { top: 0; left: 0 }\nb { top: 0 }",
             },
             Kind::RepeatedSelector => About {
-                words: "repeated selector",
                 text: "the same selector is in the list again",
                 severity: Severity::Warning,
                 wrong: "a, b, a { top: 0 }",
                 right: "a, b { top: 0 }",
             },
             Kind::SemicolonMissing => About {
-                words: "semicolon missing",
                 text: "the next declaration is read as a part of this one",
                 severity: Severity::Error,
                 wrong: "a { top: 0\n left: 0 }",
                 right: "a { top: 0;\n left: 0 }",
             },
             Kind::StrayBracket => About {
-                words: "stray bracket",
                 text: "this closes a bracket that nothing opens",
                 severity: Severity::Error,
                 wrong: "a { top: 0 } }\nb { left: 0 }",
                 right: "a { top: 0 }\nb { left: 0 }",
             },
             Kind::TooDeep => About {
-                words: "too deep",
                 text: "brackets are in brackets so deep that they are left out",
                 severity: Severity::Error,
                 wrong: "",
                 right: "",
             },
             Kind::UnitMissing => About {
-                words: "unit missing",
                 text: "a length that is not 0 has a unit",
                 severity: Severity::Error,
                 wrong: "@media (min-width: 600) { a { top: 0 } }",
                 right: "@media (min-width: 600px) { a { top: 0 } }",
             },
             Kind::UnknownAtRule => About {
-                words: "unknown at-rule",
                 text: "the name is not among those of standards and browsers",
                 severity: Severity::Error,
                 wrong: "@medai print { a { top: 0 } }",
                 right: "@media print { a { top: 0 } }",
             },
             Kind::UnknownFunction => About {
-                words: "unknown function",
                 text: "the name is not among those of standards and browsers",
                 severity: Severity::Error,
                 wrong: "a { width: clac(1px + 2px) }",
                 right: "a { width: calc(1px + 2px) }",
             },
+            Kind::UnknownLayer => About {
+                text: "a list says the order of layers, and none names this one",
+                severity: Severity::Note,
+                wrong: "@layer base, page;\n@layer pgae { a { top: 0 } }",
+                right: "@layer base, page;\n@layer page { a { top: 0 } }",
+            },
             Kind::UnknownMediaFeature => About {
-                words: "unknown media feature",
                 text: "the name is not among those of standards and browsers",
                 severity: Severity::Error,
                 wrong: "@media (min-widht: 3px) { a { top: 0 } }",
                 right: "@media (min-width: 3px) { a { top: 0 } }",
             },
             Kind::UnknownProperty => About {
-                words: "unknown property",
                 text: "the name is not among those of standards and browsers",
                 severity: Severity::Error,
                 wrong: "a { colr: red }",
                 right: "a { color: red }",
             },
             Kind::UnknownPseudoClass => About {
-                words: "unknown pseudo-class",
                 text: "browsers leave out a rule with a pseudo-class that they do not know",
                 severity: Severity::Error,
                 wrong: "a:hoverr { top: 0 }",
                 right: "a:hover { top: 0 }",
             },
             Kind::UnknownPseudoElement => About {
-                words: "unknown pseudo-element",
                 text: "browsers leave out a rule with a pseudo-element that they do not know",
                 severity: Severity::Error,
                 wrong: "p::befor { top: 0 }",
                 right: "p::before { top: 0 }",
             },
             Kind::UnknownType => About {
-                words: "unknown type",
                 text: "the name is not among those of elements of HTML, SVG and MathML",
                 severity: Severity::Warning,
                 wrong: "tabel { top: 0 }",
                 right: "table { top: 0 }",
             },
             Kind::UnknownUnit => About {
-                words: "unknown unit",
                 text: "the unit is not among those of standards and browsers",
                 severity: Severity::Error,
                 wrong: "a { top: 1pxx }",
                 right: "a { top: 1px }",
             },
             Kind::UnknownVariable => About {
-                words: "unknown variable",
                 text: "nothing in the sheet declares the custom property, and the reference has no fallback",
                 severity: Severity::Note,
                 wrong: "a { --x: 0; top: var(--y) }",
                 right: "a { --x: 0; top: var(--x) }",
             },
             Kind::UnmatchableNth => About {
-                words: "unmatchable nth",
                 text: "no element has this index, since they begin at 1",
                 severity: Severity::Error,
                 wrong: "a:nth-child(0) { top: 0 }",
                 right: "a:nth-child(1) { top: 0 }",
             },
             Kind::UnspacedOperator => About {
-                words: "unspaced operator",
                 text: "`+` and `-` have blanks before and after them in a calculation",
                 severity: Severity::Error,
                 wrong: "a { width: calc(1px+2px) }",
                 right: "a { width: calc(1px + 2px) }",
             },
             Kind::ValueNotClosed => About {
-                words: "value not closed",
                 text: "the end of the text ends a string or a bracket",
                 severity: Severity::Error,
                 wrong: "a { content: 'b",
                 right: "a { content: 'b' }",
             },
             Kind::UnsupportedAtRule => About {
-                words: "unsupported at-rule",
                 text: "valid, and this library does nothing with it",
                 severity: Severity::Note,
                 wrong: "",
                 right: "",
             },
             Kind::UnsupportedCondition => About {
-                words: "unsupported condition",
                 text: "valid, and this library does not know whether it holds",
                 severity: Severity::Note,
                 wrong: "",
                 right: "",
             },
             Kind::UnsupportedHack => About {
-                words: "unsupported hack",
                 text: "a property with `*` or `_` before it, for old browsers",
                 severity: Severity::Note,
                 wrong: "",
                 right: "",
             },
             Kind::UnsupportedNestedRule => About {
-                words: "unsupported nested rule",
                 text: "valid, and this library does not read it",
                 severity: Severity::Note,
                 wrong: "",
                 right: "",
             },
             Kind::UnsupportedPseudoClass => About {
-                words: "unsupported pseudo-class",
                 text: "valid, and no element is in this state here",
                 severity: Severity::Note,
                 wrong: "",
                 right: "",
             },
             Kind::UnsupportedSelector => About {
-                words: "unsupported selector",
                 text: "valid, and this library matches no element with it",
                 severity: Severity::Note,
                 wrong: "",

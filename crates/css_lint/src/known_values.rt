@@ -2,11 +2,11 @@
 
 use crate::data::PROPERTIES;
 use crate::texts::{after_bytes, first_bytes, inner_size_of, is_gap, is_sign, place_in, size_of};
-use crate::value_data::{COLOR_WORDS, UNIT_CLASSES, VALUES};
 use crate::values::{is_color, text_of};
 use crate::vocabulary::{Names, Near, is_of_others, nearest_word};
 use css_syntax::tokenizer::read_next;
 use css_syntax::{Token, TokenKind};
+use css_values::{COLOR_WORDS, UNIT_CLASSES, VALUES};
 use std::alloc::{AllocError, Global};
 
 /// The words that each property takes, and nothing else beside them.

@@ -1,21 +1,19 @@
 //! The rules of a sheet that are too late to count.
-ghost use Rattle.std.specs.Prelude.{◌≡◌, ◌++◌, ◌||◌, ℕ, IfOk, OnOk, false, map, length};
+ghost use Rattle.std.specs.Prelude.{◌≡◌, ◌++◌, ◌||◌, ℕ, IfOk, OnOk, map};
 ghost use Rattle.std.specs.BTreeSet.{contains};
-ghost use Rattle.std.specs.List.{list_any};
 ghost use Rattle.std.specs.Ordering.{nat_cmp};
-ghost use Rattle.css_syntax.specs.Tokens.{spells as spells_of};
 ghost use Rattle.css_syntax.specs.Views.{at_rule_of, statement_of};
 ghost use Rattle.css_sheet.specs.ImportViews.{import_of};
 ghost use Rattle.css_sheet.specs.ReaderViews.{condition_at, level_of};
-ghost use Rattle.css_sheet.specs.SheetItems.{sheet_items};
 ghost use Rattle.css_lint.specs.Late.{ends_front as ends_front_of, is_block_rule as is_block_rule_of};
-ghost use Rattle.css_lint.specs.Late.{is_in_force, is_some_around, is_statement as is_statement_of, late_from};
+ghost use Rattle.css_lint.specs.Late.{is_in_force, is_some_around, is_statement as is_statement_of};
 ghost use Rattle.css_lint.specs.Late.{late_in, late_kind as late_kind_of, place_if};
 ghost use Rattle.css_lint.specs.Places.{place_of};
 
+use crate::at_rules::is_one_of;
 use crate::findings::Finding;
 use crate::kinds::Kind;
-use css_sheet::{Import, Level, SheetReader};
+use css_sheet::{Import, Level};
 use css_syntax::texts::spells;
 use css_syntax::{AtRule, Statement};
 use std::alloc::{AllocError, Global};
@@ -37,13 +35,6 @@ const BLOCK_RULES: [&str; 13] = [
     "starting-style",
     "view-transition",
 ];
-
-/// Whether a name is one of these keywords.
-fn is_one_of(keywords: &[&str], name: &str) -> bool
-    ensures { result ≡ list_any (λ keyword. spells_of keyword.now name.now) keywords.now }
-{
-    keywords.iter().any(|keyword| spells(keyword, name))
-}
 
 /// Whether browsers know the block of an at-rule with this name.
 fn is_block_rule(name: &str) -> bool
@@ -99,7 +90,7 @@ fn late_kind(in_force: bool, follows: bool, rule: &AtRule<'_>, start: usize) -> 
 }
 
 /// Appends a statement that begins at an offset and has as many bytes, if it is too late.
-fn push_late(
+pub(crate) fn push_late(
     found: &mut Vec<Finding>,
     in_force: bool,
     follows: bool,
@@ -119,7 +110,7 @@ fn push_late(
 }
 
 /// Whether an item follows a rule, if it is not in group rules, which are rules.
-fn follows_at(follows: bool, levels: &[Level<'_>]) -> bool
+pub(crate) fn follows_at(follows: bool, levels: &[Level<'_>]) -> bool
     ensures { result ≡ (follows
         || is_some_around (map (λ level. condition_at (level_of level)) levels.now)) }
 {
@@ -127,14 +118,17 @@ fn follows_at(follows: bool, levels: &[Level<'_>]) -> bool
 }
 
 /// Whether what is after a statement follows a rule, where the statement does or does not.
-fn follows_after(follows: bool, statement: &Statement<'_>) -> bool
+pub(crate) fn follows_after(follows: bool, statement: &Statement<'_>) -> bool
     ensures { result ≡ (follows || ends_front_of (statement_of statement.now)) }
 {
     follows || ends_front(statement)
 }
 
 /// Returns the offsets at which imports begin.
-fn starts_of(alloc: Global, imports: &[Import<'_>]) -> Result<BTreeSet<usize>, AllocError>
+pub(crate) fn starts_of(
+    alloc: Global,
+    imports: &[Import<'_>],
+) -> Result<BTreeSet<usize>, AllocError>
     ensures { (start : ℕ) → IfOk result (λ starts. contains nat_cmp starts start
         ≡ is_in_force (map import_of imports.now) start) }
 {
@@ -145,28 +139,4 @@ fn starts_of(alloc: Global, imports: &[Import<'_>]) -> Result<BTreeSet<usize>, A
         left = others;
     }
     Ok(starts)
-}
-
-/// Returns the rules of a sheet that are too late, in order, where these imports are in force.
-#[tactic(auto, using(crate::proofs::LateLemmas::late_more))]
-pub(crate) fn late_rules(
-    alloc: Global,
-    text: &str,
-    imports: &[Import<'_>],
-) -> Result<Vec<Finding>, AllocError>
-    ensures { IfOk result (λ found. map place_of found.items
-        ≡ late_from (map import_of imports.now) false (sheet_items text.now)) }
-{
-    let starts = starts_of(alloc, imports)?;
-    let mut found = Vec::new(alloc);
-    let mut reader = SheetReader::new(alloc, text);
-    let mut follows = false;
-    'items: while let Some(part) = reader.read_next()? {
-        let (start, size) = (reader.places().start, part.text.len());
-        let in_force = starts.contains(&start);
-        let is_inner = follows_at(follows, reader.levels());
-        push_late(&mut found, in_force, is_inner, &part.statement, start, size)?;
-        follows = follows_after(is_inner, &part.statement);
-    }
-    Ok(found)
 }

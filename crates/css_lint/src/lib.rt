@@ -3,22 +3,31 @@
 //! Every text is looked through, in time and memory linear in its length times the number of names that are known.
 #![tactic(auto)]
 
-ghost use Rattle.std.specs.Prelude.{[], IfOk};
+ghost use Rattle.std.specs.Prelude.{IfOk};
+ghost use Rattle.css_lint.specs.InBlocks.{attribute_places};
 ghost use Rattle.css_lint.specs.Places.{AreFindings};
 ghost use Rattle.css_lint.specs.Relations.{related_places};
 
+mod at_rules;
 mod blocks;
 mod data;
 mod declarations;
+mod descriptors;
 mod findings;
+mod in_blocks;
+mod in_rules;
 mod keyframes;
+mod keys;
 mod kinds;
 mod known_values;
 mod late;
+mod layers;
 mod linter;
 mod met;
+mod placed_rules;
 mod preludes;
 mod references;
+mod refused;
 mod relations;
 mod repeated;
 mod repeats;
@@ -26,15 +35,16 @@ mod selectors;
 mod sheets;
 mod shorthands;
 mod texts;
-mod value_data;
 mod values;
 mod vocabulary;
 mod whitespace;
 
 pub use findings::{Edit, Finding, Meant};
+use in_blocks::repeated_in_attribute;
 pub use kinds::{About, KINDS, Kind, Severity};
 pub use known_values::{Known, KnownValues, takes_value};
 use linter::Linter;
+pub use refused::{refused_in_attribute, refused_in_sheet};
 use relations::{push_guesses, related};
 use std::alloc::{AllocError, Global};
 use texts::Piece;
@@ -59,7 +69,7 @@ pub fn lint_attribute(
     text: &str,
     shows_all: bool,
 ) -> Result<Vec<Finding>, AllocError>
-    ensures { IfOk result (λ found. AreFindings [] found.items) }
+    ensures { IfOk result (λ found. AreFindings (attribute_places text.now) found.items) }
 {
     let mut linter = Linter::new(alloc, shows_all)?;
     let piece = Piece {
@@ -67,7 +77,7 @@ pub fn lint_attribute(
         end: text.len(),
     };
     linter.rule_block(piece, false)?;
-    let mut found = Vec::new(alloc);
+    let mut found = repeated_in_attribute(alloc, text)?;
     push_guesses(&mut found, &linter.found)?;
     Ok(found)
 }

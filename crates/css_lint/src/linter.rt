@@ -3,6 +3,8 @@
 use crate::findings::{Finding, Meant};
 use crate::kinds::Kind;
 use crate::known_values::ValueTable;
+use crate::layers::Layer;
+use crate::met::Met;
 use crate::shorthands::Shorthands;
 use crate::values::Reference;
 use crate::vocabulary::Vocabulary;
@@ -41,10 +43,16 @@ pub(crate) struct Linter<'t> {
     pub(crate) slots: Vec<Slot>,
     /// The number of the block that is looked through.
     pub(crate) block: usize,
-    /// Whether the block is that of a keyframe.
-    pub(crate) in_keyframes: bool,
     /// Whether a namespace is the default one.
     pub(crate) has_namespace: bool,
+    /// The layers that lists name.
+    pub(crate) listed_layers: Met,
+    /// Whether a list has several, which says their order.
+    pub(crate) has_order: bool,
+    /// Whether a list is written in a way of which nothing is said.
+    pub(crate) has_hidden_layers: bool,
+    /// The layers with rules that are in no other one.
+    pub(crate) layers: Vec<Layer<'t>>,
     /// The custom properties that values name.
     pub(crate) references: Vec<Reference<'t>>,
     /// What was found.
@@ -68,8 +76,11 @@ impl<'t> Linter<'t> {
             numbered,
             slots: Vec::new(alloc),
             block: 0,
-            in_keyframes: false,
             has_namespace: false,
+            listed_layers: BTreeMap::new(alloc),
+            has_order: false,
+            has_hidden_layers: false,
+            layers: Vec::new(alloc),
             references: Vec::new(alloc),
             found: Vec::new(alloc),
         })

@@ -1,23 +1,20 @@
 //! What a sheet says again.
-ghost use Rattle.std.specs.Prelude.{◌≡◌, ◌++◌, ◌||◌, ℕ, List, IfOk, OnOk, map, bytes_eq};
-ghost use Rattle.std.specs.List.{flat_map};
+ghost use Rattle.std.specs.Prelude.{◌≡◌, ◌++◌, IfOk, OnOk, map};
 ghost use Rattle.std.specs.Option.{option_map};
 ghost use Rattle.css_syntax.specs.Views.{prelude_of, statement_of};
 ghost use Rattle.css_sheet.specs.ImportViews.{import_of, layer_of};
 ghost use Rattle.css_sheet.specs.ReaderViews.{condition_at, level_of};
-ghost use Rattle.css_sheet.specs.SheetItems.{sheet_items};
+ghost use Rattle.css_lint.specs.Keys.{keyed_of, repeated, spaced};
 ghost use Rattle.css_lint.specs.Places.{place_of};
-ghost use Rattle.css_lint.specs.Repeats.{condition_key, has_key, import_key as import_key_of, innermost_start as innermost_start_of};
-ghost use Rattle.css_lint.specs.Repeats.{keyed_import, keyed_item, keyed_of, keyed_statement, layer_key};
-ghost use Rattle.css_lint.specs.Repeats.{repeated, rule_key as rule_key_of, spaced};
+ghost use Rattle.css_lint.specs.Repeats.{condition_key, import_key as import_key_of, innermost_start as innermost_start_of};
+ghost use Rattle.css_lint.specs.Repeats.{keyed_import, keyed_statement, layer_key, rule_key as rule_key_of};
 
 use crate::findings::Finding;
+use crate::keys::{Keyed, push_bytes, push_spaced, repeated_places};
 use crate::kinds::Kind;
-use css_sheet::{Import, ImportLayer, ImportUrl, Level, SheetReader};
+use css_sheet::{Import, ImportLayer, ImportUrl, Level};
 use css_syntax::{Prelude, Statement};
-use css_text::scan::is_space;
 use std::alloc::{AllocError, Global};
-use std::collections::BTreeMap;
 
 /// A number that no byte is, between two texts.
 const BETWEEN: usize = 256;
@@ -25,74 +22,6 @@ const BETWEEN: usize = 256;
 const ANONYMOUS: usize = 257;
 /// A layer with a name, which follows.
 const NAMED: usize = 258;
-
-/// What is said at a place.
-#[derive(Drop)]
-pub(crate) struct Keyed {
-    /// The bytes of texts, and numbers between these.
-    pub(crate) key: Vec<usize>,
-    /// What is found, if the same is said before.
-    pub(crate) found: Finding,
-}
-
-/// Whether a key was met before. It is met from then on.
-fn is_met<'k>(met: &mut BTreeMap<&'k [usize], usize>, key: &'k [usize]) -> Result<bool, AllocError>
-    ensures was { IfOk result (λ was. was ≡ has_key met.old key.now) }
-    ensures keys { (q : List ℕ) → OnOk result (has_key met.new q
-        ≡ (bytes_eq key.now q || has_key met.old q)) }
-{
-    let before = met.insert(key, 0)?;
-    Ok(before.is_some())
-}
-
-/// Returns what is found of those that say the same as one before.
-fn repeated_places(alloc: Global, all: &[Keyed]) -> Result<Vec<Finding>, AllocError>
-    ensures { IfOk result (λ found. map place_of found.items ≡ repeated (map keyed_of all.now)) }
-{
-    let mut met: BTreeMap<&[usize], usize> = BTreeMap::new(alloc);
-    let mut found = Vec::new(alloc);
-    let mut left = all;
-    'keys: while let [one, others @ ..] = left {
-        if is_met(&mut met, one.key.as_slice())? {
-            found.push(one.found)?;
-        }
-        left = others;
-    }
-    Ok(found)
-}
-
-/// Appends the bytes of a text.
-fn push_bytes(out: &mut Vec<usize>, text: &str) -> Result<(), AllocError>
-    ensures { OnOk result (out.new.items ≡ out.old.items ++ text.now) }
-{
-    let mut left = text.as_bytes();
-    'bytes: while let [byte, others @ ..] = left {
-        out.push(usize::from(*byte))?;
-        left = others;
-    }
-    Ok(())
-}
-
-/// Appends the bytes of a text, with one space for each run of white space and none at its end.
-fn push_spaced(out: &mut Vec<usize>, text: &str) -> Result<(), AllocError>
-    ensures { OnOk result (out.new.items ≡ out.old.items ++ spaced text.now) }
-{
-    let mut is_after = false;
-    let mut left = text.as_bytes();
-    'bytes: while let [byte, others @ ..] = left {
-        if is_space(*byte) {
-            is_after = true;
-        } else {
-            if is_after {
-                out.push(32)?;
-            }
-            is_after = false;
-            out.push(usize::from(*byte))?;
-        }
-        left = others;
-    }
-    Ok(())
-}
 
 /// Appends which layer an import is in.
 fn push_layer(out: &mut Vec<usize>, layer: ImportLayer<'_>) -> Result<(), AllocError>
@@ -176,7 +105,7 @@ fn rule_key(
     ensures { IfOk result (λ key. key.items
         ≡ rule_key_of (map (λ level. condition_at (level_of level)) levels.now) (prelude_of prelude.now)) }
 {
-    let mut key = Vec::new(alloc);
+    let mut key = Vec::with_capacity(alloc, prelude.text.len().saturating_add(2))?;
     key.push(levels.len())?;
     key.push(innermost_start(levels))?;
     push_spaced(&mut key, prelude.text)?;
@@ -184,7 +113,7 @@ fn rule_key(
 }
 
 /// Appends a statement in group rules, if it is a rule set. Its prelude begins at this offset.
-fn push_rule(
+pub(crate) fn push_rule(
     all: &mut Vec<Keyed>,
     alloc: Global,
     levels: &[Level<'_>],
@@ -202,18 +131,4 @@ fn push_rule(
         })?;
     }
     Ok(())
-}
-
-/// Returns the rule sets of a sheet whose selectors are those of one before in the same group rule.
-pub(crate) fn repeated_rules(alloc: Global, text: &str) -> Result<Vec<Finding>, AllocError>
-    ensures { IfOk result (λ found. map place_of found.items
-        ≡ repeated (flat_map keyed_item (sheet_items text.now))) }
-{
-    let mut all = Vec::new(alloc);
-    let mut reader = SheetReader::new(alloc, text);
-    'items: while let Some(part) = reader.read_next()? {
-        let start = reader.places().prelude;
-        push_rule(&mut all, alloc, reader.levels(), &part.statement, start)?;
-    }
-    repeated_places(alloc, &all)
 }

@@ -3,13 +3,11 @@
 use crate::findings::Finding;
 use crate::kinds::Kind;
 use crate::linter::Linter;
-use crate::met::{is_met, push_words};
 use crate::texts::{Piece, after_bytes, first_bytes};
 use crate::vocabulary::{Names, Near};
-use css_selector_text::{Listed, NO_NAMES, Selector, Why};
+use css_selector_text::{NO_NAMES, Selector, Why};
 use css_syntax::{Name, NameKind, decode, read_names};
 use std::alloc::AllocError;
-use std::collections::BTreeMap;
 
 /// How many names of a selector are reported.
 const MOST_NAMES: usize = 8;
@@ -133,28 +131,6 @@ impl<'t> Linter<'t> {
                 let (start, end) = (piece.offset(name.name.len()), piece.offset(name.rest.len()));
                 self.found
                     .push(Finding::named(Kind::UnknownType, start, end, "", near))?;
-            }
-        }
-        Ok(())
-    }
-
-    /// Reports the selectors of a list that ends at this offset which are in it again.
-    pub(crate) fn repeated_selectors(
-        &mut self,
-        selectors: &[Listed<'_>],
-        end: usize,
-    ) -> Result<(), AllocError> {
-        if selectors.len() < 2 {
-            return Ok(());
-        }
-        let mut met = BTreeMap::new(self.alloc);
-        for listed in selectors {
-            let size = listed.from.len().saturating_sub(listed.to.len());
-            let mut key = String::new(self.alloc);
-            push_words(&mut key, first_bytes(listed.from, size))?;
-            if is_met(&mut met, key)? {
-                let past = end.saturating_sub(listed.to.len());
-                self.report(Kind::RepeatedSelector, past.saturating_sub(size), past)?;
             }
         }
         Ok(())

@@ -250,7 +250,6 @@ impl<'t> Linter<'t> {
         let base = sheet.start();
         let head = base.saturating_add(places.prelude);
         let head_end = head.saturating_add(rule.prelude.text.len());
-        self.repeated_selectors(&selectors, head_end)?;
         'selectors: for listed in selectors {
             self.selector(listed, head_end)?;
         }
@@ -325,9 +324,47 @@ impl<'t> Linter<'t> {
         }
     }
 
+    /// Remembers a list of layers, or a layer without rules.
+    fn layer_rule(&mut self, placed: &PlacedRule<'t>) -> Result<(), AllocError> {
+        let name = placed.rule.prelude.text;
+        if placed.rule.block.is_none() {
+            return self.list_layers(name);
+        }
+        let (start, end) = (placed.piece.start(), placed.piece.end);
+        self.fill_layer(name, start, end)
+    }
+
+    /// Remembers a group rule that is a layer, unless it is in another one.
+    fn layer(&mut self, level: &Level<'t>) -> Result<(), AllocError> {
+        let head = head_of(level);
+        self.fill_layer(level.prelude, head.start, head.head_end)
+    }
+
+    /// Reports the mistakes in the heads of the group rules that begin at this offset or later. Returns the
+    /// offset after the beginning of the last.
+    fn groups(&mut self, levels: &[Level<'t>], from: usize) -> Result<usize, AllocError> {
+        let mut from = from;
+        let mut in_layer = false;
+        for level in levels {
+            let is_layer = spells("layer", level.name);
+            if level.places.start >= from {
+                from = level.places.start.saturating_add(1);
+                self.group(level)?;
+                if is_layer && !in_layer {
+                    self.layer(level)?;
+                }
+            }
+            in_layer = in_layer || is_layer;
+        }
+        Ok(from)
+    }
+
     /// Reports the mistakes of an at-rule of a sheet.
     fn at_rule(&mut self, placed: &PlacedRule<'t>) -> Result<(), AllocError> {
         self.at_rule_head(placed)?;
+        if spells("layer", placed.rule.name) {
+            return self.layer_rule(placed);
+        }
         if placed.rule.name.eq_ignore_ascii_case("property") {
             let prelude = placed
                 .piece
@@ -456,19 +493,16 @@ impl<'t> Linter<'t> {
             if past < start {
                 self.groups_between(Piece::between(text, past, start))?;
             }
-            for level in reader.levels() {
-                if level.places.start >= group {
-                    group = level.places.start.saturating_add(1);
-                    self.group(level)?;
-                }
-            }
+            group = self.groups(reader.levels(), group)?;
             self.statement(sheet, &names, &part, places)?;
             past = past.max(end);
         }
         self.check_references(text)?;
         self.irregular_whitespace(sheet)?;
         let rest = Piece::between(text, past, text.len());
-        match self.groups_between(rest)? {
+        let after = self.groups_between(rest)?;
+        self.check_layers()?;
+        match after {
             Some(end) => self.comment_after(sheet, past.max(end)),
             None => {
                 self.open_groups(text, &heads, last)?;

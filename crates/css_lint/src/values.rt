@@ -53,7 +53,7 @@ pub(crate) fn text_of<'t>(text: &'t str, token: &Token<'_>) -> &'t str {
 }
 
 /// Returns what is in a token of a text: the name of a function, or the unit of a dimension.
-fn inside_of<'t>(text: &'t str, token: &Token<'_>) -> &'t str {
+pub(crate) fn inside_of<'t>(text: &'t str, token: &Token<'_>) -> &'t str {
     let at = text.len().saturating_sub(token.inside.len());
     first_bytes(after_bytes(text, at), inner_size_of(token))
 }
@@ -122,6 +122,11 @@ fn cells_in(row: &str) -> usize {
         was_dot = is_dot;
     }
     count
+}
+
+/// Whether the values of a property with this name may have names with two hyphens at their start.
+fn takes_dashed(name: &str) -> bool {
+    is_of_others(name) || is_among(name, DASHED)
 }
 
 /// Whether a name is that of a gradient along a line.
@@ -239,8 +244,8 @@ impl<'t> Linter<'t> {
         self.report(Kind::InvalidColor, start, end)
     }
 
-    /// Remembers the custom properties that a value names.
-    fn references(&mut self, piece: Piece<'t>, is_dashed: bool) -> Result<(), AllocError> {
+    /// Remembers the custom properties that the value of a property with this name names.
+    fn references(&mut self, name: &str, piece: Piece<'t>) -> Result<(), AllocError> {
         if !piece.text.contains('-') {
             return Ok(());
         }
@@ -259,7 +264,7 @@ impl<'t> Linter<'t> {
                     Some(next) => is_sign(&next, b')'),
                     None => true,
                 };
-                if in_var && has_no_other || !in_var && !is_dashed {
+                if in_var && has_no_other || !in_var && !takes_dashed(name) {
                     self.references.push(Reference {
                         name: text_of(piece.text, &token),
                         is_var: in_var,
@@ -331,10 +336,10 @@ impl<'t> Linter<'t> {
 
     /// Reports the mistakes of the value of a property with this name.
     pub(crate) fn value(&mut self, name: &str, piece: Piece<'t>) -> Result<(), AllocError> {
+        self.references(name, piece)?;
         if matches!(name.as_bytes(), [b'-', b'-', ..]) {
-            return self.references(piece, true);
+            return Ok(());
         }
-        self.references(piece, is_among(name, DASHED) || is_of_others(name))?;
         if name == "unicode-range" || is_filter(name) && piece.text.contains(':') {
             return Ok(());
         }

@@ -18,12 +18,12 @@ parts-preserved c =
     let policy = sheet_policy_of c.args.policy in
     let part = sheet_part_of c.in-Some.found.part in
     let rest = c.in-Some.found.rest.now in
-    let clean : is_inner_clean policy part.statement ≡ true = sym c.in_ok-is_inner_clean.ensures ∙ search rules in (
+    let clean : is_inner_clean policy c.args.in_frames part.statement ≡ true = sym c.in_ok-is_inner_clean.ensures ∙ search rules in (
       search rules,
       c.parts.invariant.1
-          ∙ ap (are_inner_clean policy)
+          ∙ ap (are_inner_clean policy c.args.in_frames)
           (statements-some false c.parts.rest.now rest part c.in-Some.ensures.read)
-          ∙ ap (λ b. b && are_inner_clean policy (statements false rest)) clean,
+          ∙ ap (λ b. b && are_inner_clean policy c.args.in_frames (statements false rest)) clean,
     )
 
 pub returns-then-not-branch : goal.returns-then-not-branch
@@ -31,12 +31,12 @@ returns-then-not-branch c =
     let policy = sheet_policy_of c.args.policy in
     let part = sheet_part_of c.in-Some.found.part in
     let rest = c.in-Some.found.rest.now in
-    let unclean : is_inner_clean policy part.statement ≡ false = sym c.in_ok-is_inner_clean.ensures ∙ search rules in
+    let unclean : is_inner_clean policy c.args.in_frames part.statement ≡ false = sym c.in_ok-is_inner_clean.ensures ∙ search rules in
     sym (c.parts.invariant.1
-    ∙ ap (are_inner_clean policy) (statements-some false c.parts.rest.now rest part c.in-Some.ensures.read)
-    ∙ ap (λ b. b && are_inner_clean policy (statements false rest)) unclean)
+    ∙ ap (are_inner_clean policy c.args.in_frames) (statements-some false c.parts.rest.now rest part c.in-Some.ensures.read)
+    ∙ ap (λ b. b && are_inner_clean policy c.args.in_frames (statements false rest)) unclean)
 
 pub returns : goal.returns
 returns c =
     sym (c.parts.invariant.1
-    ∙ ap (are_inner_clean (sheet_policy_of c.args.policy)) (statements-none false c.parts.rest.now c.in_default.ensures.read))
+    ∙ ap (are_inner_clean (sheet_policy_of c.args.policy) c.args.in_frames) (statements-none false c.parts.rest.now c.in_default.ensures.read))

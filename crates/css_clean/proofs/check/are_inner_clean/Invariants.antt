@@ -10,8 +10,8 @@ use Rattle.css_clean.proofs.check.are_inner_clean.Given as goal
 abbrev pub invariant-parts : goal.invariant-parts
 invariant-parts l =
     shadow (Utf8 l.rest)
-    × (are_inner_clean (sheet_policy_of l.policy) (statements false l.text)
-    ≡ are_inner_clean (sheet_policy_of l.policy) (statements false l.rest))
+    × (are_inner_clean (sheet_policy_of l.policy) l.in_frames (statements false l.text)
+    ≡ are_inner_clean (sheet_policy_of l.policy) l.in_frames (statements false l.rest))
 
 abbrev pub decreases-parts : goal.decreases-parts
 decreases-parts l = length l.rest

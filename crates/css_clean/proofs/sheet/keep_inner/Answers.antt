@@ -27,30 +27,30 @@ parts-preserved c =
     let place = place_at c.args.stop found.from.now found.inside.now part.text in (
       search rules,
       c.parts.invariant.1
-          ∙ ap (λ parts. string_bytes c.parts.out ++ rules_text (kept_inner policy parts))
+          ∙ ap (λ parts. string_bytes c.parts.out ++ rules_text (kept_inner policy c.args.in_frames parts))
           (statements-some true c.parts.rest.now rest part c.in-Some.ensures.read)
           ∙ rules-more (string_bytes c.parts.out) (string_bytes c.keep_inner_statement.new.out)
-          (kept_inner_statement policy part.statement) (kept_inner policy (statements true rest))
+          (kept_inner_statement policy c.args.in_frames part.statement) (kept_inner policy c.args.in_frames (statements true rest))
           c.in_ok-keep_inner_statement.ensures.kept,
       c.parts.invariant.2
-          ∙ ap (λ parts. map dropped_of c.parts.dropped.items ++ dropped_inner policy c.args.stop parts)
+          ∙ ap (λ parts. map dropped_of c.parts.dropped.items ++ dropped_inner policy c.args.in_frames c.args.stop parts)
           (placed-statements-some true c.parts.rest.now rest part c.in-Some.ensures.read)
           ∙ ap (λ at. map dropped_of c.parts.dropped.items
-          ++ (dropped_inner_statement policy at part.statement
-          ++ dropped_inner policy c.args.stop (placed_statements true rest)))
+          ++ (dropped_inner_statement policy c.args.in_frames at part.statement
+          ++ dropped_inner policy c.args.in_frames c.args.stop (placed_statements true rest)))
           (sym (placed-is true c.args.stop part found.from.now found.inside.now
           (past_between true c.parts.rest.now) rest c.in-Some.ensures.from c.in-Some.ensures.inside))
           ∙ front-more (map dropped_of c.parts.dropped.items)
           (map dropped_of c.keep_inner_statement.new.dropped.items)
-          (dropped_inner_statement policy place part.statement)
-          (dropped_inner policy c.args.stop (placed_statements true rest))
+          (dropped_inner_statement policy c.args.in_frames place part.statement)
+          (dropped_inner policy c.args.in_frames c.args.stop (placed_statements true rest))
           c.in_ok-keep_inner_statement.ensures.dropped,
     )
 
 pub returns-clause-kept : goal.returns-clause-kept
 returns-clause-kept c =
     sym (c.parts.invariant.1
-    ∙ ap (λ parts. string_bytes c.parts.out ++ rules_text (kept_inner (sheet_policy_of c.args.policy) parts))
+    ∙ ap (λ parts. string_bytes c.parts.out ++ rules_text (kept_inner (sheet_policy_of c.args.policy) c.args.in_frames parts))
     (statements-none true c.parts.rest.now c.in_default.ensures.read)
     ∙ append-nil (string_bytes c.parts.out))
 
@@ -58,6 +58,6 @@ pub returns-clause-dropped : goal.returns-clause-dropped
 returns-clause-dropped c =
     sym (c.parts.invariant.2
     ∙ ap (λ parts. map dropped_of c.parts.dropped.items
-    ++ dropped_inner (sheet_policy_of c.args.policy) c.args.stop parts)
+    ++ dropped_inner (sheet_policy_of c.args.policy) c.args.in_frames c.args.stop parts)
     (placed-statements-none true c.parts.rest.now c.in_default.ensures.read)
     ∙ append-nil (map dropped_of c.parts.dropped.items))

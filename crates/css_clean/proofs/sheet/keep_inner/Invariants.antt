@@ -12,12 +12,12 @@ use Rattle.css_clean.proofs.sheet.keep_inner.Given as goal
 abbrev pub invariant-parts : goal.invariant-parts
 invariant-parts l =
     shadow (Utf8 l.rest)
-    × (string_bytes l.fn.out ++ rules_text (kept_inner (sheet_policy_of l.policy) (statements true l.text))
-    ≡ string_bytes l.out ++ rules_text (kept_inner (sheet_policy_of l.policy) (statements true l.rest)))
+    × (string_bytes l.fn.out ++ rules_text (kept_inner (sheet_policy_of l.policy) l.in_frames (statements true l.text))
+    ≡ string_bytes l.out ++ rules_text (kept_inner (sheet_policy_of l.policy) l.in_frames (statements true l.rest)))
     × (map dropped_of l.fn.dropped.items
-    ++ dropped_inner (sheet_policy_of l.policy) l.stop (placed_statements true l.text)
+    ++ dropped_inner (sheet_policy_of l.policy) l.in_frames l.stop (placed_statements true l.text)
     ≡ map dropped_of l.dropped.items
-    ++ dropped_inner (sheet_policy_of l.policy) l.stop (placed_statements true l.rest))
+    ++ dropped_inner (sheet_policy_of l.policy) l.in_frames l.stop (placed_statements true l.rest))
 
 abbrev pub decreases-parts : goal.decreases-parts
 decreases-parts l = length l.rest

@@ -3,9 +3,8 @@ use denote.Text.{Utf8}
 use denote.Shadow.{shadow}
 use Rattle.css_syntax.specs.DeclarationLists.{items}
 use Rattle.css_syntax.specs.Placed.{placed_items}
-use Rattle.css_syntax.specs.Views.{declaration_of}
 use Rattle.css_clean.specs.Cleaning.{kept, dropped}
-use Rattle.css_clean.specs.Views.{policy_of, dropped_of}
+use Rattle.css_clean.specs.Views.{policy_of, dropped_of, written_of}
 use Rattle.css_clean.proofs.style.read_kept.Given as goal
 
 -- Those that were found, and what is left.
@@ -13,7 +12,7 @@ abbrev pub invariant-parts : goal.invariant-parts
 invariant-parts l =
     shadow (Utf8 l.rest)
     × (kept (policy_of l.policy) (items l.in_block l.text)
-    ≡ map declaration_of l.out.items ++ kept (policy_of l.policy) (items l.in_block l.rest))
+    ≡ map written_of l.out.items ++ kept (policy_of l.policy) (items l.in_block l.rest))
     × (map dropped_of l.fn.dropped.items
     ++ dropped (policy_of l.policy) l.stop (placed_items l.in_block l.text)
     ≡ map dropped_of l.dropped.items

@@ -1,6 +1,7 @@
 use Rattle.std.proofs.Common.{◌≡◌, ◌++◌, length, map}
 use Rattle.css_sheet.specs.ImportViews.{import_of}
-use Rattle.css_lint.specs.Repeats.{keyed_import, keyed_of}
+use Rattle.css_lint.specs.Keys.{keyed_of}
+use Rattle.css_lint.specs.Repeats.{keyed_import}
 use Rattle.css_lint.proofs.repeats.repeated_imports.Given as goal
 
 -- the imports so far, and the rest
