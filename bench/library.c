@@ -1,6 +1,6 @@
-/* The C library as a program, for bench/speed.py: `read SHEET` writes what simplecss_read does, `match SELECTORS TREE`, with
+/* The C library as a program, for bench/speed.py: `read SHEET` writes the statements of a sheet, `match SELECTORS TREE`, with
  * a selector a line and a tree as `cssq` takes it, what simplecss_match_selectors does, and `winners SHEET TREE` what
- * simplecss_winners does. */
+ * a query is asked for SIMPLECSS_WINNERS writes. */
 #include <stdio.h>
 #include <stdlib.h>
 #include <string.h>
@@ -105,8 +105,13 @@ static int winners(text sheet, text tree, size_t *out) {
     simplecss_tree page = tree_of(tree);
     simplecss_tree_fault fault;
     size_t len = 0;
-    uint32_t status = simplecss_winners(
-        &sheets, SIMPLECSS_MODERN, SIMPLECSS_NO_LIMIT, &page, &own, SIMPLECSS_NO_LIMIT, out, ROOM / sizeof len, &len, &fault);
+    simplecss_kept_query query = {0};
+    simplecss_asked names = {0};
+    uint32_t status = simplecss_query_new(&page, SIMPLECSS_MODERN, &sheets, SIMPLECSS_NO_LIMIT, &own, &query, &fault);
+    if (status == SIMPLECSS_DONE)
+        status = simplecss_query_numbers(
+            &query, SIMPLECSS_WINNERS, &names, 0, SIZE_MAX, SIMPLECSS_NO_LIMIT, out, ROOM / sizeof len, &len);
+    simplecss_query_free(&query);
     return write_answer(status, (uint8_t *)out, len * sizeof len);
 }
 
@@ -128,6 +133,10 @@ int main(int argc, char **words) {
     if (argc == 4 && !strcmp(words[1], "winners")) return winners(read_file(words[2]), read_file(words[3]), out);
     if (argc != 3 || strcmp(words[1], "read")) return 2;
     text sheet = read_file(words[2]);
-    uint32_t status = simplecss_read(sheet.data, sheet.len, SIMPLECSS_NO_LIMIT, out, ROOM / sizeof len, &len);
+    simplecss_kept_sheet kept = {0};
+    uint32_t status = simplecss_sheet_new(sheet.data, sheet.len, &kept);
+    if (status == SIMPLECSS_DONE)
+        status = simplecss_sheet_numbers(&kept, SIMPLECSS_STATEMENTS, SIMPLECSS_NO_LIMIT, out, ROOM / sizeof len, &len);
+    simplecss_sheet_free(&kept);
     return write_answer(status, out, len * sizeof len);
 }

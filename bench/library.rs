@@ -1,6 +1,6 @@
 //! The module `modern` of the Rust crate as a program, for bench/speed.py: `match SELECTORS TREE`, with a selector a line and a
 //! tree as `cssq` takes it, writes for each element the numbers of the selectors that match it.
-use simplecss::modern::{Document, Item, Options, Sheet};
+use simplecss::modern::{Document, Item, Options, Sheet, Text};
 use simplecss::tree::Tree;
 use std::fmt::Write;
 
@@ -35,6 +35,7 @@ fn main() {
     }
     let tree = read(&files[1]);
     let options = Options { limit: usize::MAX, ..Options::default() };
+    let text = Text::any_value(&text);
     let (mut document, sheet) = (Document::new(&tree), Sheet::parse(&text, &options).unwrap());
     let numbers: Vec<usize> = sheet.rules().map(|it| number(it.declarations())).collect();
     let (mut styles, mut out) = (document.styles(&sheet, usize::MAX).unwrap(), String::new());

@@ -1,4 +1,4 @@
-/* simplecss.hpp: lists of selectors and pages that the library keeps, as objects of C++17 over simplecss.h.
+/* simplecss.hpp: lists of selectors, style sheets, pages and queries that the library keeps, as objects of C++17 over simplecss.h.
  *
  * An object is moved and not copied, and its destructor frees what is kept. As its handle, it is asked by one thread at a
  * time, so that no question is `const`. A call that has no answer throws: std::bad_alloc where memory is refused, and
@@ -141,6 +141,25 @@ public:
     }
 };
 
+/* A style sheet: a copy of a text. */
+class Sheet : public detail::Kept<simplecss_kept_sheet, simplecss_sheet_free> {
+public:
+    explicit Sheet(std::string_view text) { detail::check(simplecss_sheet_new(detail::bytes(text), text.size(), &handle)); }
+    /* The numbers of what is asked, SIMPLECSS_STATEMENTS or SIMPLECSS_CONTENTS. */
+    std::vector<std::size_t> numbers(std::size_t asked, std::size_t most = SIMPLECSS_NO_LIMIT) {
+        return detail::answer<std::size_t>([&](std::size_t *out, std::size_t size, std::size_t *len) {
+            return simplecss_sheet_numbers(&handle, asked, most, out, size, len);
+        });
+    }
+    /* The text of what is asked, such as SIMPLECSS_LINES. */
+    std::string text(std::size_t asked = SIMPLECSS_SHORT) {
+        const auto written = detail::answer<std::uint8_t>([&](std::uint8_t *out, std::size_t size, std::size_t *len) {
+            return simplecss_sheet_text(&handle, asked, out, size, len);
+        });
+        return std::string(written.begin(), written.end());
+    }
+};
+
 /* A page: a copy of a tree, made ready to be asked. Elements are counted from 0. */
 class Page : public detail::Kept<simplecss_kept_page, simplecss_page_free> {
 public:
@@ -165,6 +184,51 @@ public:
     bool matches(std::size_t element, std::string_view selectors) {
         return element != ALL && !select(selectors, element, element, element + 1).empty();
     }
+};
+
+/* A query: copies of a tree, of one style sheet and of no declarations beside it, made ready to be asked. Elements are
+ * counted from 0. */
+class Query : public detail::Kept<simplecss_kept_query, simplecss_query_free> {
+public:
+    static constexpr std::size_t ALL = SIZE_MAX;
+    Query(const simplecss_tree &tree, const simplecss_sheets &sheets, const simplecss_own &own,
+          std::size_t grammar = SIMPLECSS_HTML, std::size_t limit = SIMPLECSS_NO_LIMIT) {
+        simplecss_tree_fault fault = {0, 0};
+        const auto status = simplecss_query_new(&tree, grammar, &sheets, limit, &own, &handle, &fault);
+        detail::check(status, fault);
+    }
+    Query(const Tree &tree, std::string_view sheet, std::size_t grammar = SIMPLECSS_HTML) : Query(tree.view(), sheet, grammar) {}
+    /* The numbers of what is asked, such as SIMPLECSS_WINNERS, of the elements from one up to another. */
+    std::vector<std::size_t> numbers(std::size_t asked, std::size_t from = 0, std::size_t to = ALL,
+                                     std::size_t most = SIMPLECSS_NO_LIMIT) {
+        static const std::size_t number = 0;
+        return numbers(asked, {detail::bytes(""), 0, &number, 0, &number, 0}, from, to, most);
+    }
+    /* The same with the names of SIMPLECSS_WINNERS_NAMED. */
+    std::vector<std::size_t> numbers(std::size_t asked, const simplecss_asked &names, std::size_t from = 0,
+                                     std::size_t to = ALL, std::size_t most = SIMPLECSS_NO_LIMIT) {
+        return detail::answer<std::size_t>([&](std::size_t *out, std::size_t size, std::size_t *len) {
+            return simplecss_query_numbers(&handle, asked, &names, from, to, most, out, size, len);
+        });
+    }
+
+    /* The texts of the selectors of the rules, in the order of SIMPLECSS_RULES, one after another. */
+    std::string texts(std::size_t most = SIMPLECSS_NO_LIMIT) {
+        const auto written = detail::answer<std::uint8_t>([&](std::uint8_t *out, std::size_t size, std::size_t *len) {
+            return simplecss_query_text(&handle, most, out, size, len);
+        });
+        return std::string(written.begin(), written.end());
+    }
+
+private:
+    Query(const simplecss_tree &tree, std::string_view sheet, std::size_t grammar)
+        : Query(tree, sheets_of(sheet, sheet.size()), own_of(0), grammar) {}
+    /* The temporary `end` lives until the query is made. */
+    static simplecss_sheets sheets_of(std::string_view sheet, const std::size_t &end) {
+        const auto none = detail::bytes("");
+        return {detail::bytes(sheet), sheet.size(), &end, 1, &end, 0, none, 0, &end, 0, &end, 0, &end, 0, none, 0, &end, 0};
+    }
+    static simplecss_own own_of(const std::size_t &number) { return {detail::bytes(""), 0, &number, 0}; }
 };
 
 } // namespace simplecss

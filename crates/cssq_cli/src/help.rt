@@ -32,7 +32,7 @@ and 4 if a file cannot be read or the output cannot be written.
 ";
 
 /// The version of the program.
-const VERSION: &str = "cssq 0.2.0\n";
+const VERSION: &str = "cssq 0.3.0\n";
 
 /// Returns what the words ask for, if they are `--help`, `-h` or `--version`.
 pub(crate) fn help_for(words: &[String]) -> Option<&'static str> {

@@ -1,1 +1,5 @@
 pub mod HtmlCalls
+pub mod EditCalls
+pub mod QueryNumbers
+pub mod SheetQuestions
+pub mod InlineCalls

@@ -6,45 +6,34 @@
 //! 6 nothing was written, and `len` is the length that the call needs. At any other status nothing was
 //! written, and `len` is 0. `fault` is set at 2 only.
 
+ghost use Rattle.std.specs.Prelude.{nat_eq, not};
 ghost use Rattle.call_answers.specs.Answers.{IsAnswered, IsAnsweredOfTree, IsHandedOver};
-ghost use Rattle.call_answers.specs.Calls.{IsSelectorCall, IsSheetCall, IsPrinted, IsMatchCall};
-ghost use Rattle.call_answers.specs.Calls.{AreRuleTexts, IsSkippedCall, IsStyleCall, IsStylesCall};
 ghost use Rattle.call_answers.specs.Calls.{IsCloseCall, passed_of};
-ghost use Rattle.sheet_calls.specs.ContentNumbers.{IsContentsCall};
+ghost use Rattle.port_calls.specs.PortCalls.{IsPortCall, question_of as question_of_port};
 ghost use Rattle.sheet_calls.specs.Conditions.{IsMediaCall, IsSupportsCall};
-ghost use Rattle.sheet_calls.specs.ImportLines.{IsImportsCall};
 ghost use Rattle.call_answers.specs.ItemNumbers.{IsDeclarationsCall};
 ghost use Rattle.sheet_calls.specs.NumberLines.{IsTokensCall, IsNamesCall};
-ghost use Rattle.sheet_calls.specs.Linting.{IsLintCall};
-ghost use Rattle.sheet_calls.specs.PrintedSheets.{IsPrintCall};
-ghost use Rattle.call_answers.specs.SheetNumbers.{IsReadCall};
-ghost use Rattle.simplecss_calls.specs.WinnerNumbers.{IsRulesCall, IsNumbersCall, sheets_of};
-ghost use Rattle.explain_calls.specs.ExplainNumbers.{IsExplainCall};
-ghost use Rattle.simplecss_calls.specs.declared.contents.ElementContent.TheVariants.{Winners, Named, Matches};
-ghost use Rattle.simplecss_calls.specs.RuleTexts.{IsRuleTextsCall};
-ghost use Rattle.sheet_calls.specs.Spellings.{IsDecodeCall, IsEscapeCall, IsQuoteCall};
-ghost use Rattle.sheet_calls.specs.Values.{IsInheritedCall, IsLonghandsCall, IsResolveCall};
-ghost use Rattle.sheet_calls.specs.Values.{IsShorthandsCall, IsValidCall};
+ghost use Rattle.lint_calls.specs.Linting.{IsLintCall};
+ghost use Rattle.lint_calls.specs.RefusedValues.{IsRefusedCall};
+ghost use Rattle.sheet_calls.specs.Spellings.{IsSpellCall};
+ghost use Rattle.sheet_calls.specs.Values.{IsPropertyCall, IsResolveCall, IsValidCall, question_of};
 ghost use Rattle.simplecss_calls.specs.Grammars.{grammar_of};
-ghost use Rattle.simplecss_calls.specs.GrammarCalls.{IsMatchSelectorsCall, IsRefusalCall, IsSelectCall};
+ghost use Rattle.simplecss_calls.specs.GrammarCalls.{IsMatchSelectorsCall, IsRefusalCall};
 
 use call_answers::answer::{
-    TreeFault, copy_whole, hand_over, hand_over_numbers, hand_over_numbers_of_tree,
-    hand_over_of_tree, hand_over_truth,
+    TreeFault, copy_whole, hand_over, hand_over_numbers, hand_over_of_tree, hand_over_truth,
 };
 use call_answers::elements::PassedTree;
 use css_values::{INHERITED, LOGICAL, SHORTHANDS};
-use explain_calls::explaining;
+use lint_calls::{lint, refused};
 use port_calls::port;
 use sheet_calls::conditions::DeviceNumbers;
-use sheet_calls::{conditions, imports, lint, printing, sheet_contents, spellings, tokens, values};
-use simplecss_calls::contents::{AskedNames, ElementContent, OwnTexts};
-use simplecss_calls::winners::Sheets;
-use simplecss_calls::{calls, element_numbers, rule_texts, winners};
+use sheet_calls::{conditions, spellings, tokens, values};
+use simplecss_calls::calls;
 use std::alloc::Global;
 
 /// The version of the library. The changelog begins with it.
-const VERSION: &str = "0.2.0";
+const VERSION: &str = "0.3.0";
 
 /// Writes the version of the library.
 #[unsafe(no_mangle)]
@@ -95,42 +84,6 @@ pub extern "C" fn simplecss_match_selectors(
     hand_over_of_tree(outcome, out, len, fault)
 }
 
-/// Writes the number of each element of a tree that one of the selectors of a list matches, and a
-/// newline.
-#[unsafe(no_mangle)]
-pub extern "C" fn simplecss_select(
-    alloc: Global,
-    selectors: &[u8],
-    grammar: usize,
-    tree: &PassedTree<'_>,
-    most: usize,
-    out: &mut [u8],
-    len: &mut usize,
-    fault: &mut TreeFault,
-) -> u32
-    ensures { IsAnsweredOfTree (IsSelectCall (grammar_of grammar) most selectors.now (passed_of tree.now))
-        result out.old out.new len.new fault.old fault.new }
-{
-    let outcome = calls::select(alloc, selectors, grammar, *tree, most);
-    hand_over_of_tree(outcome, out, len, fault)
-}
-
-/// Writes numbers of each statement of a style sheet by the modern grammar, with offsets into the text: ten of
-/// what it is and where; how many there are of its group rules, its selectors and its items; and these: six of
-/// each group rule, nine of each selector, and ten of each item.
-#[unsafe(no_mangle)]
-pub extern "C" fn simplecss_read(
-    alloc: Global,
-    text: &[u8],
-    most: usize,
-    out: &mut [usize],
-    len: &mut usize,
-) -> u32
-    ensures { IsAnswered (IsReadCall most text.now) result out.old out.new len.new }
-{
-    hand_over_numbers(calls::read(alloc, text, most), out, len)
-}
-
 /// Writes ten numbers of each item of a style attribute by the modern grammar, with offsets into the text.
 #[unsafe(no_mangle)]
 pub extern "C" fn simplecss_declarations(
@@ -144,34 +97,6 @@ pub extern "C" fn simplecss_declarations(
     hand_over_numbers(calls::declarations(alloc, text), out, len)
 }
 
-/// Writes of each `@import` of a style sheet that is in force a line of nine numbers, and its url, the
-/// name of its layer, its condition and its media queries, one after another, with a newline.
-#[unsafe(no_mangle)]
-pub extern "C" fn simplecss_imports(
-    alloc: Global,
-    text: &[u8],
-    out: &mut [u8],
-    len: &mut usize,
-) -> u32
-    ensures { IsAnswered (IsImportsCall text.now) result out.old out.new len.new }
-{
-    hand_over(imports::imports(alloc, text), out, len)
-}
-
-/// Writes ten numbers of each item in a style rule, of each style rule and group rule where its block begins, and
-/// of each block where it ends, with offsets into the sheet.
-#[unsafe(no_mangle)]
-pub extern "C" fn simplecss_contents(
-    alloc: Global,
-    text: &[u8],
-    out: &mut [usize],
-    len: &mut usize,
-) -> u32
-    ensures { IsAnswered (IsContentsCall text.now) result out.old out.new len.new }
-{
-    hand_over_numbers(sheet_contents::sheet_contents(alloc, text), out, len)
-}
-
 /// Writes a line of each mistake in a style sheet, or in a style attribute if `asked` has 2 in it; if it has 1 in it, of what is
 /// unsupported, too. A line has the kind, the offsets of the first byte and after the last one, and what was probably
 /// meant; and if one answer is right, the offsets between which it is written, and the answer; with tabs between them.
@@ -183,24 +108,28 @@ pub extern "C" fn simplecss_lint(
     out: &mut [u8],
     len: &mut usize,
 ) -> u32
-    ensures { IsAnswered (IsLintCall text.now) result out.old out.new len.new }
+    ensures { IsAnswered (IsLintCall asked text.now) result out.old out.new len.new }
 {
     hand_over(lint::lint(alloc, text, asked), out, len)
 }
 
-/// Writes a style sheet, printed: without comments, and with no more bytes than are needed or with a line for each
-/// declaration and each rule.
+/// Writes two numbers of each declaration of a style sheet whose value no browser takes, or of a style attribute if
+/// `attribute` is not 0: where it begins and ends.
 #[unsafe(no_mangle)]
-pub extern "C" fn simplecss_print(
+pub extern "C" fn simplecss_refused_values(
     alloc: Global,
     text: &[u8],
-    layout: usize,
-    out: &mut [u8],
+    attribute: usize,
+    out: &mut [usize],
     len: &mut usize,
 ) -> u32
-    ensures { IsAnswered (IsPrintCall layout text.now) result out.old out.new len.new }
+    ensures { IsAnswered (IsRefusedCall (not (nat_eq attribute 0)) text.now) result out.old out.new len.new }
 {
-    hand_over(printing::print(alloc, text, layout), out, len)
+    hand_over_numbers(
+        refused::refused_values(alloc, text, attribute != 0),
+        out,
+        len,
+    )
 }
 
 /// Writes the value of a declaration with what closes it, where the end of the text left a string, a
@@ -247,172 +176,19 @@ pub extern "C" fn simplecss_names(
     hand_over_numbers(tokens::names(alloc, texts, ends), out, len)
 }
 
-/// Writes the text that a name denotes, or what is in a string: its escapes are decoded.
+/// Writes what a text denotes as a name, or between the quotes of a string; or the identifier or the string, in double
+/// quotes, that denotes it. A NUL of these is written as U+FFFD.
 #[unsafe(no_mangle)]
-pub extern "C" fn simplecss_decode(
+pub extern "C" fn simplecss_spell(
     alloc: Global,
     text: &[u8],
-    in_string: usize,
+    asked: usize,
     out: &mut [u8],
     len: &mut usize,
 ) -> u32
-    ensures { IsAnswered (IsDecodeCall text.now in_string) result out.old out.new len.new }
+    ensures { IsAnswered (IsSpellCall asked text.now) result out.old out.new len.new }
 {
-    hand_over(spellings::decode(alloc, text, in_string), out, len)
-}
-
-/// Writes an identifier that denotes the name. A NUL is written as U+FFFD.
-#[unsafe(no_mangle)]
-pub extern "C" fn simplecss_escape(
-    alloc: Global,
-    name: &[u8],
-    out: &mut [u8],
-    len: &mut usize,
-) -> u32
-    ensures { IsAnswered (IsEscapeCall name.now) result out.old out.new len.new }
-{
-    hand_over(spellings::escape(alloc, name), out, len)
-}
-
-/// Writes a string, in double quotes, that denotes the text. A NUL is written as U+FFFD.
-#[unsafe(no_mangle)]
-pub extern "C" fn simplecss_quote(
-    alloc: Global,
-    text: &[u8],
-    out: &mut [u8],
-    len: &mut usize,
-) -> u32
-    ensures { IsAnswered (IsQuoteCall text.now) result out.old out.new len.new }
-{
-    hand_over(spellings::quote(alloc, text), out, len)
-}
-
-/// Writes numbers of each style rule of sheets, in the order of the cascade: of its sheet, where its
-/// declarations begin there, the rank of its layer, the lengths of its selector and of its pseudo-element's name,
-/// the specificity, how many declarations it has, and six for each of them: of the offset and the length of its
-/// name and of its value, and whether it is important and closed.
-#[unsafe(no_mangle)]
-pub extern "C" fn simplecss_rules(
-    alloc: Global,
-    sheets: &Sheets<'_>,
-    limit: usize,
-    out: &mut [usize],
-    len: &mut usize,
-) -> u32
-    ensures { IsAnswered (IsRulesCall limit (sheets_of sheets.now)) result out.old out.new len.new }
-{
-    hand_over_numbers(winners::rules(alloc, *sheets, limit), out, len)
-}
-
-/// Writes the texts of the selectors of the style rules of sheets, in the order of the cascade, one after
-/// another.
-#[unsafe(no_mangle)]
-pub extern "C" fn simplecss_rule_texts(
-    alloc: Global,
-    sheets: &Sheets<'_>,
-    limit: usize,
-    most: usize,
-    out: &mut [u8],
-    len: &mut usize,
-) -> u32
-    ensures { IsAnswered (IsRuleTextsCall most limit (sheets_of sheets.now)) result out.old out.new len.new }
-{
-    hand_over(
-        rule_texts::rule_texts(alloc, *sheets, limit, most),
-        out,
-        len,
-    )
-}
-
-/// Writes for each element of a tree how many declarations win on it, of sheets and of its own, and two
-/// numbers for each: of where it is, by its rule in the order of the cascade, and of its place there.
-#[unsafe(no_mangle)]
-pub extern "C" fn simplecss_winners(
-    alloc: Global,
-    sheets: &Sheets<'_>,
-    grammar: usize,
-    limit: usize,
-    tree: &PassedTree<'_>,
-    own: &OwnTexts<'_>,
-    most: usize,
-    out: &mut [usize],
-    len: &mut usize,
-    fault: &mut TreeFault,
-) -> u32
-    ensures { IsAnsweredOfTree (IsNumbersCall (Winners own.now) (grammar_of grammar) most limit
-        (sheets_of sheets.now) (passed_of tree.now)) result out.old out.new len.new fault.old fault.new }
-{
-    let content = ElementContent::Winners(*own);
-    let outcome = element_numbers::numbers(alloc, content, *sheets, grammar, limit, *tree, most);
-    hand_over_numbers_of_tree(outcome, out, len, fault)
-}
-
-/// Writes for each element of a tree, and for each property that is asked for, two numbers of the
-/// declaration that wins of those with one of its names.
-#[unsafe(no_mangle)]
-pub extern "C" fn simplecss_winners_named(
-    alloc: Global,
-    sheets: &Sheets<'_>,
-    grammar: usize,
-    limit: usize,
-    tree: &PassedTree<'_>,
-    own: &OwnTexts<'_>,
-    asked: &AskedNames<'_>,
-    most: usize,
-    out: &mut [usize],
-    len: &mut usize,
-    fault: &mut TreeFault,
-) -> u32
-    ensures { IsAnsweredOfTree (IsNumbersCall (Named own.now asked.now) (grammar_of grammar) most limit
-        (sheets_of sheets.now) (passed_of tree.now)) result out.old out.new len.new fault.old fault.new }
-{
-    let content = ElementContent::Named(*own, *asked);
-    let outcome = element_numbers::numbers(alloc, content, *sheets, grammar, limit, *tree, most);
-    hand_over_numbers_of_tree(outcome, out, len, fault)
-}
-
-/// Writes for each element of a tree how many rules of sheets match it, and the number of each in the order
-/// of the cascade.
-#[unsafe(no_mangle)]
-pub extern "C" fn simplecss_matches(
-    alloc: Global,
-    sheets: &Sheets<'_>,
-    grammar: usize,
-    limit: usize,
-    tree: &PassedTree<'_>,
-    most: usize,
-    out: &mut [usize],
-    len: &mut usize,
-    fault: &mut TreeFault,
-) -> u32
-    ensures { IsAnsweredOfTree (IsNumbersCall Matches (grammar_of grammar) most limit
-        (sheets_of sheets.now) (passed_of tree.now)) result out.old out.new len.new fault.old fault.new }
-{
-    let content = ElementContent::Matches;
-    let outcome = element_numbers::numbers(alloc, content, *sheets, grammar, limit, *tree, most);
-    hand_over_numbers_of_tree(outcome, out, len, fault)
-}
-
-/// Writes three numbers of each declaration of a property that applies to an element, the strongest first: of where
-/// it is and of its place there, as [`simplecss_winners`] writes them, and of the criterion by which it loses to the
-/// one before it.
-#[unsafe(no_mangle)]
-pub extern "C" fn simplecss_explain(
-    alloc: Global,
-    sheets: &Sheets<'_>,
-    limit: usize,
-    matching: &[usize],
-    own: &OwnTexts<'_>,
-    names: &[u8],
-    ends: &[usize],
-    out: &mut [usize],
-    len: &mut usize,
-) -> u32
-    ensures { IsAnswered (IsExplainCall limit (sheets_of sheets.now) matching.now own.now names.now ends.now)
-        result out.old out.new len.new }
-{
-    let outcome = explaining::explain(alloc, *sheets, limit, matching, *own, names, ends);
-    hand_over_numbers(outcome, out, len)
+    hand_over(spellings::spell(alloc, text, asked), out, len)
 }
 
 /// Writes what a list of media queries says on a device: `true`, `false` or `unknown`. It holds if that is
@@ -484,174 +260,41 @@ pub extern "C" fn simplecss_valid_value(
     hand_over_truth(values::is_valid_value(alloc, value), out, len)
 }
 
-/// Writes the longhands that a shorthand sets, with spaces between them. Another name is refused.
+/// Writes what is asked of a property: the longhands that it sets, with spaces between them; the shorthands that set it,
+/// each with a newline after it; its logical or physical counterpart; or whether it is inherited, as `true` or `false`.
 #[unsafe(no_mangle)]
-pub extern "C" fn simplecss_longhands(
+pub extern "C" fn simplecss_property(
     alloc: Global,
     name: &[u8],
+    asked: usize,
     out: &mut [u8],
     len: &mut usize,
 ) -> u32
-    ensures { IsAnswered (IsLonghandsCall SHORTHANDS.now name.now) result out.old out.new len.new }
+    ensures { IsAnswered (IsPropertyCall SHORTHANDS.now LOGICAL.now INHERITED.now (question_of asked) name.now)
+        result out.old out.new len.new }
 {
-    hand_over(values::longhands(alloc, name), out, len)
+    hand_over(values::property(alloc, name, asked), out, len)
 }
 
-/// Writes the shorthands that set a longhand, each with a newline after it.
+/// Writes what is asked by the grammar of the port: the printed sheet of the texts in a buffer; its rules, each with its
+/// specificity and its declarations; what is skipped of the buffer as one text; the rules that match each element of a
+/// tree; all that wins on each; or the elements that the list of selectors matches which the buffer is.
 #[unsafe(no_mangle)]
-pub extern "C" fn simplecss_shorthands(
-    alloc: Global,
-    name: &[u8],
-    out: &mut [u8],
-    len: &mut usize,
-) -> u32
-    ensures { IsAnswered (IsShorthandsCall SHORTHANDS.now name.now) result out.old out.new len.new }
-{
-    hand_over(values::shorthands(alloc, name), out, len)
-}
-
-/// Writes the other name of a longhand that has a logical and a physical one, where text is horizontal, from left
-/// to right. Another name is refused.
-#[unsafe(no_mangle)]
-pub extern "C" fn simplecss_counterpart(
-    alloc: Global,
-    name: &[u8],
-    out: &mut [u8],
-    len: &mut usize,
-) -> u32
-    ensures { IsAnswered (IsLonghandsCall LOGICAL.now name.now) result out.old out.new len.new }
-{
-    hand_over(values::counterpart(alloc, name), out, len)
-}
-
-/// Writes `true` if a property is inherited, else `false`.
-#[unsafe(no_mangle)]
-pub extern "C" fn simplecss_inherited(name: &[u8], out: &mut [u8], len: &mut usize) -> u32
-    ensures { IsAnswered (IsInheritedCall INHERITED.now name.now) result out.old out.new len.new }
-{
-    hand_over_truth(values::is_inherited(name), out, len)
-}
-
-/// Writes the printed selector of a text by the grammar of the port, a TAB, its specificity as three
-/// numbers with commas between them, and a newline.
-#[unsafe(no_mangle)]
-pub extern "C" fn simplecss_port_selector(
-    alloc: Global,
-    text: &[u8],
-    out: &mut [u8],
-    len: &mut usize,
-) -> u32
-    ensures { IsAnswered (IsSelectorCall text.now) result out.old out.new len.new }
-{
-    hand_over(port::selector(alloc, text), out, len)
-}
-
-/// Writes the printed sheet of the texts in a buffer by the grammar of the port, and a newline where it
-/// has a rule.
-#[unsafe(no_mangle)]
-pub extern "C" fn simplecss_port_sheet(
+pub extern "C" fn simplecss_port(
     alloc: Global,
     texts: &[u8],
     ends: &[usize],
     limit: usize,
-    out: &mut [u8],
-    len: &mut usize,
-) -> u32
-    ensures { IsAnswered (IsSheetCall IsPrinted texts.now ends.now limit) result out.old out.new len.new }
-{
-    hand_over(port::sheet(alloc, texts, ends, limit), out, len)
-}
-
-/// Writes of each rule of the sheet of the texts by the grammar of the port its specificity, its printed
-/// selector and its declarations, each text after a line with its length.
-#[unsafe(no_mangle)]
-pub extern "C" fn simplecss_port_rules(
-    alloc: Global,
-    texts: &[u8],
-    ends: &[usize],
-    limit: usize,
-    out: &mut [u8],
-    len: &mut usize,
-) -> u32
-    ensures { IsAnswered (IsSheetCall AreRuleTexts texts.now ends.now limit) result out.old out.new len.new }
-{
-    hand_over(port::rules(alloc, texts, ends, limit), out, len)
-}
-
-/// Writes of each piece of a style sheet's text that the grammar of the port skips the row, the column, the
-/// length of what is quoted and the reason on a line, and what is quoted on another.
-#[unsafe(no_mangle)]
-pub extern "C" fn simplecss_port_skipped(
-    alloc: Global,
-    text: &[u8],
-    out: &mut [u8],
-    len: &mut usize,
-) -> u32
-    ensures { IsAnswered (IsSkippedCall text.now) result out.old out.new len.new }
-{
-    hand_over(port::skipped(alloc, text), out, len)
-}
-
-/// Writes a line for each element of a tree: its number, a colon, the number of each rule that the port
-/// matches with it after a space, and a newline. Numbers begin at 1.
-#[unsafe(no_mangle)]
-pub extern "C" fn simplecss_port_match(
-    alloc: Global,
-    texts: &[u8],
-    ends: &[usize],
-    limit: usize,
+    asked: usize,
     tree: &PassedTree<'_>,
     most: usize,
     out: &mut [u8],
     len: &mut usize,
     fault: &mut TreeFault,
 ) -> u32
-    ensures { IsAnsweredOfTree (IsMatchCall most texts.now ends.now limit (passed_of tree.now))
-        result out.old out.new len.new fault.old fault.new }
+    ensures { IsAnsweredOfTree (IsPortCall (question_of_port asked) most texts.now ends.now limit
+        (passed_of tree.now)) result out.old out.new len.new fault.old fault.new }
 {
-    let outcome = port::matches(alloc, texts, ends, limit, *tree, most);
-    hand_over_of_tree(outcome, out, len, fault)
-}
-
-/// Writes a line for each element of a tree: its number, a colon, the value of the declaration that
-/// wins for the name in the port after a space, ` !important` if it is, and a newline.
-#[unsafe(no_mangle)]
-pub extern "C" fn simplecss_port_style(
-    alloc: Global,
-    texts: &[u8],
-    ends: &[usize],
-    limit: usize,
-    tree: &PassedTree<'_>,
-    name: &[u8],
-    most: usize,
-    out: &mut [u8],
-    len: &mut usize,
-    fault: &mut TreeFault,
-) -> u32
-    ensures { IsAnsweredOfTree (IsStyleCall most texts.now ends.now limit (passed_of tree.now)
-        name.now) result out.old out.new len.new fault.old fault.new }
-{
-    let outcome = port::style(alloc, texts, ends, limit, *tree, name, most);
-    hand_over_of_tree(outcome, out, len, fault)
-}
-
-/// Writes of each element of a tree how many declarations win in the port, and these, each text after a line
-/// with its length.
-#[unsafe(no_mangle)]
-pub extern "C" fn simplecss_port_styles(
-    alloc: Global,
-    texts: &[u8],
-    ends: &[usize],
-    limit: usize,
-    tree: &PassedTree<'_>,
-    most: usize,
-    out: &mut [u8],
-    len: &mut usize,
-    fault: &mut TreeFault,
-) -> u32
-    ensures { IsAnsweredOfTree (IsStylesCall most texts.now ends.now limit (passed_of tree.now))
-        result out.old out.new len.new fault.old fault.new }
-{
-    let outcome = port::styles(alloc, texts, ends, limit, *tree, most);
+    let outcome = port::ask(alloc, texts, ends, limit, asked, *tree, most);
     hand_over_of_tree(outcome, out, len, fault)
 }

@@ -1,3 +1,4 @@
 pub mod WinnerSteps
 pub mod WinnerCalls
 pub mod OwnTexts
+mod FirstConditions

@@ -1,9 +1,8 @@
 -- What the calls for the cascade answer, and why they fail.
--- Serves `winners::{read_rules, rules}`, `element_numbers::modern_numbers` and `rule_texts::rule_texts`.
-use Rattle.std.proofs.Common.{Bor, ◌≡◌, ℕ, ◌<◌, ◌≤◌, List, Option, Some, None, inl, inr, refl, sym, ap, ◌∙◌, length, map, string_bytes, subst}
+-- Serves `winners::read_rules`, `element_numbers::asked_numbers` and `rule_texts::rule_texts`.
+use Rattle.std.proofs.Common.{Bor, ◌≡◌, ℕ, ◌<◌, ◌≤◌, List, Some, None, inl, inr, refl, sym, ap, ◌∙◌, length, map, string_bytes, subst}
 use Rattle.std.specs.Prelude.{Result, Ok, Err, MatchResult, Vec, ◌⊎◌}
 use Rattle.std.specs.Result.{IsErrAnd}
-use Rattle.std.specs.Str.{IsUtf8}
 use Rattle.css_cascade.specs.Layers.{most_layers}
 use Rattle.css_selectors.specs.MarkedLists.{ListText}
 use Rattle.css_sheet.specs.SheetOrder.{SheetRuleText}
@@ -15,29 +14,22 @@ use Rattle.css_sheet.specs.declared.sheet_rules.GroupRule.{GroupRule}
 use Rattle.css_sheet.specs.declared.sheet_rules.Sheet.{Sheet}
 use Rattle.css_sheet.specs.declared.sheet_error.SheetError.TheVariants as sheet
 use Rattle.css_tree.specs.Pages.{Page}
-use Rattle.css_elements.specs.Rows.{Row}
 use Rattle.call_answers.specs.declared.answer.CallError.{CallError}
 use Rattle.call_answers.specs.declared.answer.CallError.TheVariants.{Refused, Tree, Memory, TooManyDeclarations, NotUtf8, AnswerTooLong, TooManyLayers}
 use Rattle.simplecss_calls.specs.declared.contents.ElementContent.{ElementContent}
 use Rattle.call_answers.specs.declared.elements.ElementFault.{ElementFault}
 use Rattle.page_calls.specs.declared.modern.document_kind.DocumentKind.{DocumentKind}
-use Rattle.call_answers.specs.Calls.{FailsFor, FailsLonger, FailsWithin, HasBadEnds, HasTexts, IsBrokenUtf8, Passed, passed_tree, passed_states, passed_spaced}
+use Rattle.call_answers.specs.Calls.{FailsFor, FailsLonger, FailsWithin, HasBadEnds, HasTexts, IsBrokenUtf8}
 use Rattle.page_calls.specs.MarkedPages.{AreOnMarked}
-use Rattle.page_calls.specs.ModernLines.{page_with}
+use Rattle.page_calls.specs.declared.modern.ranges.ElementRange.{ElementRange}
 use Rattle.std.specs.declared.string.String.{String}
 use Rattle.call_answers.specs.Outcomes.{numbers_outcome, outcome_of}
-use Rattle.simplecss_calls.specs.RuleTexts.{rule_texts, AreLongerTexts, IsRuleTextsCall}
+use Rattle.simplecss_calls.specs.RuleTexts.{rule_texts, AreRuleTexts}
 use Rattle.page_calls.specs.Readings.{selector_as}
-use Rattle.simplecss_calls.specs.WinnerNumbers.{ContentText, PassedSheets, AreSheets, FailsBeside, HasBadBeside, IsBrokenBeside, group_rule_at, sheets_with, AreAskedOnTree, AreBeyond, AreRules, AreNumbers, HasBadContent, IsBrokenContent, IsContent, IsModernNumbersCall, held_declarations, held_layers}
+use Rattle.simplecss_calls.specs.Asked.{ContentText, AreNumbers, HasBadContent, IsAskedOf, IsBrokenContent, IsContent}
+use Rattle.simplecss_calls.specs.WinnerNumbers.{PassedSheets, AreSheets, FailsBeside, HasBadBeside, IsBrokenBeside, group_rule_at, sheets_with, AreBeyond, AreRules, held_declarations, held_layers}
 use Rattle.call_answers.specs.Failures.{unread}
 use Rattle.call_answers.proofs.Limits.{fails_within, within_wider, longer_wider}
-
--- a failure that is handed on
-pub numbers-failed : {Z : Type 0} (Is : Result (List ℕ) CallError → Type 0)
-    (r : Result (Vec ℕ Z) CallError) (error : CallError)
-    → IsErrAnd r (λ reported. reported ≡ error) → Is (Err error) → Is (numbers_outcome r)
-numbers-failed Is (Ok numbers) error is due = absurd is
-numbers-failed Is (Err reported) error is due = subst (λ e. Is (Err e)) (sym is) due
 
 -- the sheets that are made of texts and of group rules that were read, each of which was borrowed
 pub are-sheets : (passed : PassedSheets)
@@ -181,49 +173,36 @@ rules-beside P passed limit sheets groups are (Err failure) sheet.TooManyLayers 
 rules-beside P passed limit sheets groups are (Err failure) sheet.Memory is over many =
     subst (FailsBeside passed limit ⊥ (λ fault. ⊥) ⊥ ⊥) (sym is) tt
 
--- the numbers that are due for a tree
-module _ (asked : ElementContent) (content : ContentText) (asks : IsContent asked content)
-    (most limit : ℕ) (sheets : PassedSheets) (kind : DocumentKind)
-    (passed : Passed) (rules : List SheetRuleText) (lists : List ListText) (rows : List Row) where
-  abbrev are_on : Page → Option (List ℕ) → Type 0
-  are_on page =
-      AreOnMarked most kind lists page (AreNumbers content most (selector_as kind) rules)
+-- the numbers that are due for what is asked
+pub asked-due : {Z : Type 0} (asked : ElementContent) (content : ContentText) (most : ℕ) (range : ElementRange)
+    (kind : DocumentKind) (rules : List SheetRuleText) (lists : List ListText) (texts : List (List ℕ)) (page : Page)
+    → IsContent asked content → (r : Result (Vec ℕ Z) CallError)
+    → MatchResult r
+    (λ out. AreOnMarked most kind lists page (AreNumbers content texts most range (selector_as kind) rules) (Some out.items))
+    (FailsLonger (AreOnMarked most kind lists page (AreNumbers content texts most range (selector_as kind) rules) None))
+    → IsAskedOf asked most range kind rules lists texts page (numbers_outcome r)
+asked-due asked content most range kind rules lists texts page asks (Ok out) due = (content, asks, due)
+asked-due asked content most range kind rules lists texts page asks (Err error) due =
+    longer_wider _ _ _ _ (λ longer. (content, asks, longer)) error due
 
-  pub numbers-due : {Z : Type 0} (page : Page) → AreRules sheets limit rules lists
-      → IsUtf8 passed.strings → passed_tree passed ≡ Ok rows
-      → page ≡ page_with kind (passed_states passed) (passed_spaced passed) passed.elements rows
-      → (r : Result (Vec ℕ Z) CallError)
-      → MatchResult r (λ out. are_on page (Some out.items)) (FailsLonger (are_on page None))
-      → IsModernNumbersCall asked most limit sheets kind passed (numbers_outcome r)
-  numbers-due page are utf8 tree same (Ok out) due = (
-    content,
-    asks,
-    (rules, lists, rows, are, utf8, tree, subst (λ p. are_on p (Some out.items)) same due),
-  )
-  numbers-due page are utf8 tree same (Err error) due =
-      longer-beside sheets limit (HasBadContent asked) (λ fault. passed_tree passed ≡ Err fault)
-      (IsBrokenContent asked ⊎ (¬ (IsUtf8 passed.strings)))
-      (AreAskedOnTree asked most limit sheets kind passed None) error
-      (longer_wider _ _ _ _ (λ longer. (
-        content,
-        asks,
-        (rules, lists, rows, are, utf8, tree, subst (λ p. are_on p None) same longer),
-      )) error due)
+-- why there are no names
+pub asked-failed : {Z : Type 0} (asked : ElementContent) (most : ℕ) (range : ElementRange) (kind : DocumentKind)
+    (rules : List SheetRuleText) (lists : List ListText) (texts : List (List ℕ)) (page : Page)
+    (r : Result (Vec ℕ Z) CallError) (error : CallError) → IsErrAnd r (λ reported. reported ≡ error)
+    → FailsFor (HasBadContent asked) (λ fault. ⊥) (IsBrokenContent asked) error
+    → IsAskedOf asked most range kind rules lists texts page (numbers_outcome r)
+asked-failed asked most range kind rules lists texts page (Ok numbers) error is h = absurd is
+asked-failed asked most range kind rules lists texts page (Err reported) error is h =
+    subst (λ e. IsAskedOf asked most range kind rules lists texts page (Err e)) (sym is)
+    (within_wider (λ bad. bad) (λ fault is. absurd is) (λ broken. broken) (λ is. absurd is) (λ is. absurd is) error
+    (fails_within (HasBadContent asked) (λ fault. ⊥) (IsBrokenContent asked) ⊥ ⊥ error h))
 
--- the texts that are due for the rules of sheets
-pub texts-due : {Z : Type 0} (most limit : ℕ) (sheets : PassedSheets) (rules same : List SheetRuleText)
-    (lists : List ListText) → AreRules sheets limit rules lists → same ≡ rules
+-- the texts that are due for rules
+pub texts-due : {Z : Type 0} (most : ℕ) (rules same : List SheetRuleText) → same ≡ rules
     → (r : Result (String Z) CallError)
     → MatchResult r (λ lines. (string_bytes lines ≡ rule_texts same)
     × (length (string_bytes lines) ≤ most)) (FailsLonger (most < length (rule_texts same)))
-    → IsRuleTextsCall most limit sheets (outcome_of r)
-texts-due most limit sheets rules same lists are is (Ok text) due =
-    (rules, lists, are, due.0 ∙ ap rule_texts is, due.1)
-texts-due most limit sheets rules same lists are is (Err error) due =
-    longer-beside sheets limit ⊥ (λ fault. ⊥) ⊥ (AreLongerTexts most limit sheets) error
-    (longer_wider _ _ _ _ (λ longer. (
-      rules,
-      lists,
-      are,
-      subst (λ rs. most < length (rule_texts rs)) is longer,
-    )) error due)
+    → AreRuleTexts most rules (outcome_of r)
+texts-due most rules same is (Ok text) due = (due.0 ∙ ap rule_texts is, due.1)
+texts-due most rules same is (Err error) due =
+    subst (λ rs. FailsLonger (most < length (rule_texts rs)) error) is due

@@ -5,8 +5,8 @@ use Rattle.call_answers.specs.declared.answer.CallError.{CallError}
 use Rattle.call_answers.specs.declared.answer.CallError.TheVariants.{Refused}
 use Rattle.simplecss_calls.specs.declared.grammar.Grammar.{Grammar}
 use Rattle.simplecss_calls.specs.declared.grammar.Grammar.TheVariants.{Modern, Port}
-use Rattle.call_answers.specs.Calls.{Passed, IsPortRefusalCall, IsPortMatchSelectorsCall, IsPortSelectCall}
-use Rattle.page_calls.specs.ModernCalls.{IsModernRefusalCall, IsModernMatchCall, IsModernSelectCall}
+use Rattle.call_answers.specs.Calls.{Passed, IsPortRefusalCall, IsPortMatchSelectorsCall}
+use Rattle.page_calls.specs.ModernCalls.{IsModernRefusalCall, IsModernMatchCall}
 
 -- where the text is no list of selectors, and why, or nothing where it is one, where a tree declares names for
 -- modern selectors
@@ -23,11 +23,3 @@ IsMatchSelectorsCall (Some (Modern reading)) most buffer ends passed outcome =
     IsModernMatchCall most buffer ends reading passed outcome
 IsMatchSelectorsCall (Some Port) most buffer ends passed outcome =
     IsPortMatchSelectorsCall most buffer ends passed outcome
-
--- which elements one of the selectors of a list matches, in at most this number of bytes
-abbrev pub IsSelectCall : Option Grammar → (most : ℕ) → List ℕ → Passed
-    → Result (List ℕ) CallError → Type 0
-IsSelectCall None most text passed outcome = outcome ≡ Err Refused
-IsSelectCall (Some (Modern reading)) most text passed outcome =
-    IsModernSelectCall most text reading passed outcome
-IsSelectCall (Some Port) most text passed outcome = IsPortSelectCall most text passed outcome

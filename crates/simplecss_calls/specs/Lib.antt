@@ -1,3 +1,5 @@
+pub mod Asked
+pub mod ExplainNumbers
 pub mod Grammars
 pub mod GrammarCalls
 pub mod WinnerNumbers

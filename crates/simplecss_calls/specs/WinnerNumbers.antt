@@ -1,7 +1,6 @@
 -- The declarations that win on the elements of a tree, and the rules that match them, as numbers.
 use Rattle.std.specs.Prelude.{◌≡◌, ◌⊎◌, ◌<◌, ◌≤◌, ℕ, ◌+◌, ◌*◌, min, take, drop, Bool, true, false, ◌&&◌, ◌||◌, ◌==◌, if◌then◌else◌, List, [], ◌∷◌, ◌++◌, length, map, bytes_eq, Option, None, Some, Result, Ok, Err}
 use Rattle.std.specs.List.{filter_map, flat_map, slice_get}
-use Rattle.std.specs.Str.{IsUtf8}
 use Rattle.css_matching.specs.ListTrees.{spot}
 use Rattle.css_syntax.specs.Contents.{declaration_value}
 use Rattle.css_syntax.specs.DeclarationLists.{DeclarationText, ItemText, declared, at_rule_item, skipped_item}
@@ -23,22 +22,15 @@ use Rattle.css_styles.specs.Winners.{WinnerText, AreWinners, winners}
 use Rattle.css_styles.specs.declared.winner.Source.{Source}
 use Rattle.css_styles.specs.declared.winner.Source.TheVariants as sources
 use Rattle.css_tree.specs.Pages.{Page, page_document}
-use Rattle.css_elements.specs.Rows.{Row}
 use Rattle.call_answers.specs.declared.answer.CallError.{CallError}
-use Rattle.call_answers.specs.declared.answer.CallError.TheVariants.{Refused, TooManyLayers}
-use Rattle.simplecss_calls.specs.declared.contents.ElementContent.{ElementContent}
-use Rattle.simplecss_calls.specs.declared.contents.ElementContent.TheVariants as contents
+use Rattle.call_answers.specs.declared.answer.CallError.TheVariants.{TooManyLayers}
 use Rattle.call_answers.specs.declared.elements.ElementFault.{ElementFault}
 use Rattle.simplecss_calls.specs.declared.winners.Sheets.{Sheets}
-use Rattle.simplecss_calls.specs.declared.grammar.Grammar.{Grammar}
-use Rattle.simplecss_calls.specs.declared.grammar.Grammar.TheVariants.{Modern, Port}
-use Rattle.page_calls.specs.declared.modern.document_kind.DocumentKind.{DocumentKind}
 use Rattle.call_answers.specs.AnswerLines.{AreLinesWithin}
-use Rattle.call_answers.specs.Calls.{FailsWithin, HasTexts, HasBadEnds, IsBrokenUtf8, Passed, passed_tree, passed_states, passed_spaced}
-use Rattle.page_calls.specs.MarkedPages.{AreOnMarked}
-use Rattle.page_calls.specs.ModernLines.{page_with}
+use Rattle.call_answers.specs.Calls.{FailsWithin, HasTexts, HasBadEnds, IsBrokenUtf8}
+use Rattle.page_calls.specs.Ranges.{count_in}
+use Rattle.page_calls.specs.declared.modern.ranges.ElementRange.{ElementRange}
 use Rattle.call_answers.specs.Numbers.{number_if, offset}
-use Rattle.page_calls.specs.Readings.{selector_as}
 
 -- ---- group rules
 
@@ -177,11 +169,12 @@ abbrev pub IsWonOf : Option (List (List (List ℕ))) → (texts : List (List ℕ
     → List SheetRuleText → Page → ℕ → List ℕ → Type 0
 IsWonOf asked texts read rules page index = IsWon asked (own_at texts index) read rules page index
 
--- those of all elements, in order, within a limit on how many these are
-abbrev pub AreWon : Option (List (List (List ℕ))) → (texts : List (List ℕ)) → (most : ℕ)
+-- those of the elements of a range, in order, within a limit on how many these are
+abbrev pub AreWon : Option (List (List (List ℕ))) → (texts : List (List ℕ)) → (most : ℕ) → ElementRange
     → (Selector → Selector) → List SheetRuleText → Page → Option (List ℕ) → Type 0
-AreWon asked texts most read rules page =
-    AreLinesWithin most (IsWonOf asked texts read rules page) (length page.rows)
+AreWon asked texts most range read rules page =
+    AreLinesWithin most (λ index. IsWonOf asked texts read rules page (range.from + index))
+    (count_in range (length page.rows))
 
 -- ---- what matches
 
@@ -191,51 +184,15 @@ IsMatchedBy selectors page index numbers =
     (indices : List ℕ) × AreMatches page_document (spot page index) selectors indices
     × (numbers ≡ length indices ∷ indices)
 
--- those of all elements, in order, within a limit on how many these are
-abbrev pub AreMatchedBy : (most : ℕ) → List Selector → Page → Option (List ℕ) → Type 0
-AreMatchedBy most selectors page =
-    AreLinesWithin most (IsMatchedBy selectors page) (length page.rows)
+-- those of the elements of a range, in order, within a limit on how many these are
+abbrev pub AreMatchedBy : (most : ℕ) → ElementRange → List Selector → Page → Option (List ℕ) → Type 0
+AreMatchedBy most range selectors page =
+    AreLinesWithin most (λ index. IsMatchedBy selectors page (range.from + index)) (count_in range (length page.rows))
 
 -- those of the rules, where a document reads selectors in this way
-abbrev pub AreMatched : (most : ℕ) → (Selector → Selector) → List SheetRuleText → Page
+abbrev pub AreMatched : (most : ℕ) → ElementRange → (Selector → Selector) → List SheetRuleText → Page
     → Option (List ℕ) → Type 0
-AreMatched most read rules = AreMatchedBy most (selectors_read read rules)
-
--- what is written of each element: what wins, of these properties or of each, with these declarations of
--- elements; or what matches
-pub data ContentText : Type 0 where
-  won : Option (List (List (List ℕ))) → (own : List (List ℕ)) → ContentText
-  matched : ContentText
-
-abbrev pub AreNumbers : ContentText → (most : ℕ) → (Selector → Selector) → List SheetRuleText
-    → Page → Option (List ℕ) → Type 0
-AreNumbers (won asked own) = AreWon asked own
-AreNumbers matched = AreMatched
-
--- what a caller says of it: the same by texts in buffers, with their ends
-abbrev pub IsContent : ElementContent → ContentText → Type 0
-IsContent (contents.Winners own) content =
-    (texts : List (List ℕ)) × HasTexts own.texts.now own.ends.now texts
-    × (content ≡ won None texts)
-IsContent (contents.Named own names) content =
-    (texts words : List (List ℕ)) × HasTexts own.texts.now own.ends.now texts
-    × HasTexts names.names.now names.ends.now words
-    × (content ≡ won (Some (groups_in names.counts.now words)) texts)
-IsContent contents.Matches content = content ≡ matched
-
--- ends are not those of texts
-abbrev pub HasBadContent : ElementContent → Type 0
-HasBadContent (contents.Winners own) = HasBadEnds own.texts.now own.ends.now
-HasBadContent (contents.Named own names) =
-    HasBadEnds own.texts.now own.ends.now ⊎ HasBadEnds names.names.now names.ends.now
-HasBadContent contents.Matches = ⊥
-
--- a text is not UTF-8
-abbrev pub IsBrokenContent : ElementContent → Type 0
-IsBrokenContent (contents.Winners own) = IsBrokenUtf8 own.texts.now own.ends.now
-IsBrokenContent (contents.Named own names) =
-    IsBrokenUtf8 own.texts.now own.ends.now ⊎ IsBrokenUtf8 names.names.now names.ends.now
-IsBrokenContent contents.Matches = ⊥
+AreMatched most range read rules = AreMatchedBy most range (selectors_read read rules)
 
 -- ---- calls
 
@@ -373,45 +330,3 @@ FailsBeside sheets limit HasBad IsFaulty IsBroken IsLonger failure =
     FailsWithin (HasBadEnds sheets.texts sheets.ends ⊎ HasBadBeside sheets HasBad)
     IsFaulty (IsBrokenUtf8 sheets.texts sheets.ends ⊎ IsBrokenBeside sheets IsBroken)
     (AreBeyond sheets limit) IsLonger failure
-
--- the numbers of each rule of the sheets, in the order of the cascade
-abbrev pub IsRulesCall : (limit : ℕ) → PassedSheets → Result (List ℕ) CallError → Type 0
-IsRulesCall limit sheets (Ok numbers) =
-    (rules : List SheetRuleText) × (lists : List ListText) × AreRules sheets limit rules lists
-    × (numbers ≡ flat_map rule_numbers rules)
-IsRulesCall limit sheets (Err failure) = FailsBeside sheets limit ⊥ (λ fault. ⊥) ⊥ ⊥ failure
-
--- The numbers of each element of a tree, or none within a limit: on it the lists are answered that selectors ask
--- by numbers.
-abbrev pub AreOnTree : ContentText → (most limit : ℕ) → PassedSheets → DocumentKind → Passed
-    → Option (List ℕ) → Type 0
-AreOnTree content most limit sheets kind passed answer =
-    (rules : List SheetRuleText) × (lists : List ListText) × (rows : List Row)
-    × AreRules sheets limit rules lists × IsUtf8 passed.strings × (passed_tree passed ≡ Ok rows)
-    × AreOnMarked most kind lists (page_with kind (passed_states passed) (passed_spaced passed) passed.elements rows)
-    (AreNumbers content most (selector_as kind) rules) answer
-
--- those of what a caller asks for
-abbrev pub AreAskedOnTree : ElementContent → (most limit : ℕ) → PassedSheets → DocumentKind → Passed
-    → Option (List ℕ) → Type 0
-AreAskedOnTree asked most limit sheets kind passed answer =
-    (content : ContentText) × IsContent asked content
-    × AreOnTree content most limit sheets kind passed answer
-
--- the same, or why there are none
-abbrev pub IsModernNumbersCall : ElementContent → (most limit : ℕ) → PassedSheets → DocumentKind
-    → Passed → Result (List ℕ) CallError → Type 0
-IsModernNumbersCall asked most limit sheets kind passed (Ok numbers) =
-    AreAskedOnTree asked most limit sheets kind passed (Some numbers)
-IsModernNumbersCall asked most limit sheets kind passed (Err failure) =
-    FailsBeside sheets limit (HasBadContent asked) (λ fault. passed_tree passed ≡ Err fault)
-    (IsBrokenContent asked ⊎ (¬ (IsUtf8 passed.strings)))
-    (AreAskedOnTree asked most limit sheets kind passed None) failure
-
--- the same by a grammar, which is one of modern selectors
-abbrev pub IsNumbersCall : ElementContent → Option Grammar → (most limit : ℕ) → PassedSheets → Passed
-    → Result (List ℕ) CallError → Type 0
-IsNumbersCall asked None most limit sheets passed outcome = outcome ≡ Err Refused
-IsNumbersCall asked (Some (Modern kind)) most limit sheets passed outcome =
-    IsModernNumbersCall asked most limit sheets kind passed outcome
-IsNumbersCall asked (Some Port) most limit sheets passed outcome = outcome ≡ Err Refused

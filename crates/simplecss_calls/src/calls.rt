@@ -4,10 +4,8 @@ ghost use Rattle.std.specs.Prelude.{◌≡◌};
 ghost use Rattle.call_answers.specs.Outcomes.{numbers_outcome, outcome_of};
 ghost use Rattle.call_answers.specs.Calls.{IsCloseCall, passed_of};
 ghost use Rattle.call_answers.specs.ItemNumbers.{IsDeclarationsCall};
-ghost use Rattle.call_answers.specs.SheetNumbers.{IsReadCall};
 ghost use Rattle.simplecss_calls.specs.Grammars.{grammar_of};
-ghost use Rattle.simplecss_calls.specs.GrammarCalls.{IsRefusalCall};
-ghost use Rattle.simplecss_calls.specs.GrammarCalls.{IsMatchSelectorsCall, IsSelectCall};
+ghost use Rattle.simplecss_calls.specs.GrammarCalls.{IsMatchSelectorsCall, IsRefusalCall};
 
 use crate::grammar::Grammar;
 use call_answers::answer::CallError;
@@ -17,7 +15,6 @@ use call_answers::texts::text_of;
 use css_syntax::closed_value;
 use page_calls::modern;
 use port_calls::port;
-use sheet_calls::sheets::sheet_numbers;
 use std::alloc::Global;
 
 /// Where a text is no list of selectors, and why, or nothing where it is one, where a tree declares names.
@@ -51,30 +48,6 @@ pub fn match_selectors(
         Grammar::Modern(kind) => { modern::match_selectors(alloc, buffer, ends, kind, tree, most) }
         Grammar::Port => port::match_selectors(alloc, buffer, ends, tree, most),
     }
-}
-
-/// The numbers of the elements of a tree that one of the selectors of a list matches.
-pub fn select(
-    alloc: Global,
-    text: &[u8],
-    grammar: usize,
-    tree: PassedTree<'_>,
-    most: usize,
-) -> Result<String, CallError>
-    ensures { IsSelectCall (grammar_of grammar) most text.now (passed_of tree.entry)
-        (outcome_of result) }
-{
-    match Grammar::from_number(grammar)? {
-        Grammar::Modern(kind) => modern::select(alloc, text, kind, tree, most),
-        Grammar::Port => port::select(alloc, text, tree, most),
-    }
-}
-
-/// The numbers of the statements of a style sheet by the modern grammar.
-pub fn read(alloc: Global, text: &[u8], most: usize) -> Result<Vec<usize>, CallError>
-    ensures { IsReadCall most text.now (numbers_outcome result) }
-{
-    sheet_numbers(alloc, text_of(text)?, most)
 }
 
 /// The numbers of the items of a style attribute by the modern grammar.

@@ -1,9 +1,10 @@
-//! What is to be written of the elements of a tree: what wins on each, or which rules match it.
+//! What is to be written of the elements of a page: what wins on each, which rules match it, or what applies.
 
 ghost use Rattle.std.specs.Prelude.{◌≡◌, IfOk, MatchResult, map, take, drop};
 ghost use Rattle.css_styles.specs.StyleViews.{names_of, own_of};
 ghost use Rattle.call_answers.specs.Calls.{FailsFor};
-ghost use Rattle.simplecss_calls.specs.WinnerNumbers.{IsContent, HasBadContent, IsBrokenContent, groups_in};
+ghost use Rattle.simplecss_calls.specs.Asked.{IsContent, HasBadContent, IsBrokenContent};
+ghost use Rattle.simplecss_calls.specs.WinnerNumbers.{groups_in};
 ghost use Rattle.simplecss_calls.specs.WinnerNumbers.{own_at as own_at_of, text_at as text_at_of};
 ghost use Rattle.simplecss_calls.specs.internal.Contents.{asked_in, content_of};
 ghost use Rattle.simplecss_calls.specs.declared.contents.ElementContent.TheVariants as passed;
@@ -38,13 +39,15 @@ pub struct AskedNames<'t> {
 
 /// What is to be written of an element, in numbers, as it is passed.
 #[derive(Clone, Copy)]
-pub enum ElementContent<'t> {
+pub enum ElementContent<'n> {
     /// The declarations that win.
-    Winners(OwnTexts<'t>),
+    Winners,
     /// For each of some properties the declaration that wins.
-    Named(OwnTexts<'t>, AskedNames<'t>),
+    Named(AskedNames<'n>),
     /// The rules that match.
     Matches,
+    /// All declarations of the property of these names that apply, and by what each loses.
+    Explained(AskedNames<'n>),
 }
 
 /// The names of properties: each of `counts` is how many names the next property has.
@@ -56,22 +59,15 @@ pub struct AskedProperties<'t> {
     counts: &'t [usize],
 }
 
-/// The declarations of elements that are in no rule, and the properties that are asked for, or all.
-#[derive(Drop)]
-pub struct Won<'t> {
-    /// Two texts for each element.
-    pub own: Vec<&'t str>,
-    /// The properties, if only some are asked for.
-    pub asked: Option<AskedProperties<'t>>,
-}
-
 /// What is to be written of an element.
 #[derive(Drop)]
-pub enum Content<'t> {
-    /// The declarations that win.
-    Won(Won<'t>),
+pub enum Content<'n> {
+    /// The declarations that win, of these properties if only some are asked for.
+    Won(Option<AskedProperties<'n>>),
     /// The rules that match.
     Matched,
+    /// All declarations of the property of these names that apply.
+    Explained(Vec<&'n str>),
 }
 
 /// Returns the text of a number, which is empty if there is none.
@@ -151,44 +147,39 @@ impl<'t> AskedProperties<'t> {
     }
 }
 
-/// Reads what wins of each property, where these texts are of elements' own declarations.
-fn read_all<'t>(alloc: Global, own: OwnTexts<'t>) -> Result<Content<'t>, CallError>
-    ensures { let asked = passed.Winners own.entry in
-        MatchResult result (λ read. IsContent asked (content_of read))
-        (FailsFor (HasBadContent asked) (λ fault. ⊥) (IsBrokenContent asked)) }
-{
-    let own = texts_of(alloc, own.texts, own.ends)?;
-    Ok(Content::Won(Won { own, asked: None }))
-}
-
-/// The same of what wins of properties with these names.
-fn read_asked<'t>(
-    alloc: Global,
-    own: OwnTexts<'t>,
-    asked: AskedNames<'t>,
-) -> Result<Content<'t>, CallError>
-    ensures { let asks = passed.Named own.entry asked.entry in
+/// Reads what wins of properties with these names.
+fn read_asked<'n>(alloc: Global, asked: AskedNames<'n>) -> Result<Content<'n>, CallError>
+    ensures { let asks = passed.Named asked.entry in
         MatchResult result (λ read. IsContent asks (content_of read))
         (FailsFor (HasBadContent asks) (λ fault. ⊥) (IsBrokenContent asks)) }
 {
-    let own = texts_of(alloc, own.texts, own.ends)?;
     let names = texts_of(alloc, asked.names, asked.ends)?;
     let counts = asked.counts;
-    let asked = Some(AskedProperties { names, counts });
-    Ok(Content::Won(Won { own, asked }))
+    Ok(Content::Won(Some(AskedProperties { names, counts })))
+}
+
+/// The same of what applies of the property of these names.
+fn read_explained<'n>(alloc: Global, asked: AskedNames<'n>) -> Result<Content<'n>, CallError>
+    ensures { let asks = passed.Explained asked.entry in
+        MatchResult result (λ read. IsContent asks (content_of read))
+        (FailsFor (HasBadContent asks) (λ fault. ⊥) (IsBrokenContent asks)) }
+{
+    let names = texts_of(alloc, asked.names, asked.ends)?;
+    Ok(Content::Explained(names))
 }
 
 /// Reads what is to be written.
-pub fn read_content<'t>(
+pub fn read_content<'n>(
     alloc: Global,
-    content: ElementContent<'t>,
-) -> Result<Content<'t>, CallError>
+    content: ElementContent<'n>,
+) -> Result<Content<'n>, CallError>
     ensures { MatchResult result (λ read. IsContent content.entry (content_of read))
         (FailsFor (HasBadContent content.entry) (λ fault. ⊥) (IsBrokenContent content.entry)) }
 {
     match content {
-        ElementContent::Winners(own) => read_all(alloc, own),
-        ElementContent::Named(own, asked) => read_asked(alloc, own, asked),
+        ElementContent::Winners => Ok(Content::Won(None)),
+        ElementContent::Named(asked) => read_asked(alloc, asked),
         ElementContent::Matches => Ok(Content::Matched),
+        ElementContent::Explained(asked) => read_explained(alloc, asked),
     }
 }

@@ -1,99 +1,88 @@
-//! The numbers of the elements of a tree: what wins on each, or which rules match it.
+//! The numbers of the elements of a range of a page: what wins on each, which rules match it, or what applies.
 
-ghost use Rattle.std.specs.Prelude.{None, Some, MatchResult};
-ghost use Rattle.call_answers.specs.Calls.{FailsLonger, passed_of};
-ghost use Rattle.simplecss_calls.specs.Grammars.{grammar_of};
-ghost use Rattle.page_calls.specs.MarkedPages.{AreOnMarked};
+ghost use Rattle.std.specs.Prelude.{◌≡◌, [], None, Some, MatchResult, map};
+ghost use Rattle.css_tree.specs.Marks.{AreMarked, with_marks};
+ghost use Rattle.call_answers.specs.Calls.{FailsLonger};
+ghost use Rattle.page_calls.specs.MarkedPages.{AreOnMarked, list_as};
 ghost use Rattle.call_answers.specs.Outcomes.{numbers_outcome};
 ghost use Rattle.page_calls.specs.Readings.{selector_as};
 ghost use Rattle.simplecss_calls.specs.internal.Contents.{content_of};
-ghost use Rattle.simplecss_calls.specs.WinnerNumbers.{AreNumbers, IsModernNumbersCall, IsNumbersCall, sheets_of};
+ghost use Rattle.simplecss_calls.specs.Asked.{AreNumbers, IsAskedOf};
 
 use crate::contents::{Content, ElementContent, read_content};
-use crate::grammar::Grammar;
-use crate::matches::page_matches;
-use crate::winners::{Sheets, page_winners, read_rules};
+use crate::explained::range_explained;
+use crate::matches::range_matches;
+use crate::winners::range_winners;
 use call_answers::answer::CallError;
-use call_answers::elements::{PassedTree, read_named_tree};
 use css_styles::StyleRules;
 use css_tree::NumberedTree;
 use page_calls::marks::mark;
-use page_calls::modern::{DocumentKind, page_of};
+use page_calls::modern::{DocumentKind, ElementRange};
 use std::alloc::Global;
 
-/// The numbers of each element of a page, where a document reads selectors in this way.
-fn page_numbers<'a>(
+/// The numbers of each element of a range, where a document reads selectors in this way, and the lists that they ask.
+fn range_numbers<'a>(
     alloc: Global,
-    content: &Content<'a>,
+    content: &Content<'_>,
     rules: &StyleRules<'a>,
+    own: &[&'a str],
     kind: DocumentKind,
     page: &NumberedTree<'_, '_>,
+    range: ElementRange,
     most: usize,
 ) -> Result<Vec<usize>, CallError>
-    ensures { MatchResult result
-        (λ out. AreNumbers (content_of content.now) most (selector_as kind) rules.now.rules page.now
-        (Some out.items))
-        (FailsLonger (AreNumbers (content_of content.now) most (selector_as kind) rules.now.rules page.now None)) }
-{
-    match content {
-        Content::Won(won) => page_winners(alloc, rules, kind, page, won, most),
-        Content::Matched => page_matches(alloc, rules.as_slice(), kind, page, most),
-    }
-}
-
-/// The numbers of each element of a page, after the lists that `&` means are answered on it.
-fn marked_numbers<'a>(
-    alloc: Global,
-    content: &Content<'a>,
-    rules: &StyleRules<'a>,
-    kind: DocumentKind,
-    page: NumberedTree<'_, '_>,
-    most: usize,
-) -> Result<Vec<usize>, CallError>
-    ensures { let are = AreOnMarked most kind rules.now.lists page.entry
-        (AreNumbers (content_of content.now) most (selector_as kind) rules.now.rules) in
+    requires { AreMarked (map (list_as kind) rules.now.lists) page.now }
+    ensures { let are = AreNumbers (content_of content.now) (map (λ text. text.now) own.now) most range
+        (selector_as kind) rules.now.rules page.now in
         MatchResult result (λ out. are (Some out.items)) (FailsLonger (are None)) }
 {
-    let mut page = page;
-    mark(alloc, rules.lists(), kind, &mut page, most)?;
-    page_numbers(alloc, content, rules, kind, &page, most)
-}
-
-/// The numbers of each element of a tree, by modern selectors.
-fn modern_numbers<'a>(
-    alloc: Global,
-    asked: ElementContent<'a>,
-    sheets: Sheets<'a>,
-    kind: DocumentKind,
-    limit: usize,
-    tree: PassedTree<'_>,
-    most: usize,
-) -> Result<Vec<usize>, CallError>
-    ensures { IsModernNumbersCall asked.entry most limit (sheets_of sheets.entry) kind
-        (passed_of tree.entry) (numbers_outcome result) }
-{
-    let rules = read_rules(alloc, sheets, limit)?;
-    let content = read_content(alloc, asked)?;
-    let read = read_named_tree(alloc, tree)?;
-    let page = page_of(alloc, kind, &read, tree.elements)?;
-    marked_numbers(alloc, &content, &rules, kind, page, most)
-}
-
-/// The numbers of what wins on each element of a tree, or of the rules that match it.
-pub fn numbers<'a>(
-    alloc: Global,
-    asked: ElementContent<'a>,
-    sheets: Sheets<'a>,
-    grammar: usize,
-    limit: usize,
-    tree: PassedTree<'_>,
-    most: usize,
-) -> Result<Vec<usize>, CallError>
-    ensures { IsNumbersCall asked.entry (grammar_of grammar) most limit (sheets_of sheets.entry)
-        (passed_of tree.entry) (numbers_outcome result) }
-{
-    match Grammar::from_number(grammar)? {
-        Grammar::Modern(kind) => { modern_numbers(alloc, asked, sheets, kind, limit, tree, most) }
-        Grammar::Port => Err(CallError::Refused),
+    match content {
+        Content::Won(asked) => {
+            range_winners(alloc, rules, kind, page, own, asked.as_ref(), range, most)
+        }
+        Content::Matched => range_matches(alloc, rules.as_slice(), kind, page, range, most),
+        Content::Explained(names) => {
+            range_explained(alloc, rules, kind, page, own, names, range, most)
+        }
     }
+}
+
+/// The numbers of each element of a range, after the lists that selectors ask by numbers are answered on the page.
+fn marked_numbers<'a>(
+    alloc: Global,
+    content: &Content<'_>,
+    rules: &StyleRules<'a>,
+    own: &[&'a str],
+    kind: DocumentKind,
+    page: &mut NumberedTree<'_, '_>,
+    range: ElementRange,
+    most: usize,
+) -> Result<Vec<usize>, CallError>
+    ensures answer { let are = AreOnMarked most kind rules.now.lists page.old
+        (AreNumbers (content_of content.now) (map (λ text. text.now) own.now) most range (selector_as kind)
+        rules.now.rules) in
+        MatchResult result (λ out. are (Some out.items)) (FailsLonger (are None)) }
+    ensures kept { with_marks page.new [] ≡ with_marks page.old [] }
+{
+    mark(alloc, rules.lists(), kind, page, most)?;
+    range_numbers(alloc, content, rules, own, kind, page, range, most)
+}
+
+/// The numbers of what is asked of each element of a range of a page. Of the page only the marks change.
+pub fn asked_numbers<'a>(
+    alloc: Global,
+    asked: ElementContent<'_>,
+    rules: &StyleRules<'a>,
+    own: &[&'a str],
+    kind: DocumentKind,
+    page: &mut NumberedTree<'_, '_>,
+    range: ElementRange,
+    most: usize,
+) -> Result<Vec<usize>, CallError>
+    ensures answer { IsAskedOf asked.entry most range kind rules.now.rules rules.now.lists
+        (map (λ text. text.now) own.now) page.old (numbers_outcome result) }
+    ensures kept { with_marks page.new [] ≡ with_marks page.old [] }
+{
+    let content = read_content(alloc, asked)?;
+    marked_numbers(alloc, &content, rules, own, kind, page, range, most)
 }

@@ -1,4 +1,4 @@
-//! Which rules match the elements of a tree, as numbers.
+//! Which rules match the elements of a page, as numbers.
 
 ghost use Rattle.std.specs.Prelude.{◌≡◌, ◌<◌, ◌++◌, OnOk, MatchResult, ℕ, List, None, Some, length, map};
 ghost use Rattle.css_sheet.specs.SheetRuleViews.{sheet_rule_of};
@@ -11,7 +11,7 @@ use call_answers::answer::{CallError, check_count};
 use css_selectors::Tests;
 use css_sheet::SheetRule;
 use css_tree::{NumberedTree, TreeWalk};
-use page_calls::modern::{DocumentKind, html_rule_selectors};
+use page_calls::modern::{DocumentKind, ElementRange, html_rule_selectors};
 use std::alloc::{AllocError, Global};
 
 /// Appends how many rules match the element at an index, and the index of each, by a walk. What was in
@@ -37,49 +37,51 @@ fn push_matched(
     Ok(())
 }
 
-/// The numbers of the rules that match each element of a page, by a walk, within a limit.
+/// The numbers of the rules that match each element of a range, by a walk, within a limit.
 fn matched_by(
     alloc: Global,
     walk: &mut TreeWalk<'_, '_>,
     page: &NumberedTree<'_, '_>,
+    range: ElementRange,
     most: usize,
 ) -> Result<Vec<usize>, CallError>
     requires { IsOpenAt page.now walk.old.walk walk.old.place }
     ensures { MatchResult result
-        (λ out. AreMatchedBy most walk.old.walk.selectors page.now (Some out.items))
-        (FailsLonger (AreMatchedBy most walk.old.walk.selectors page.now None)) }
+        (λ out. AreMatchedBy most range walk.old.walk.selectors page.now (Some out.items))
+        (FailsLonger (AreMatchedBy most range walk.old.walk.selectors page.now None)) }
 {
     let mut indices = Vec::new(alloc);
     let mut out = Vec::new(alloc);
-    for element in 0..page.len() {
-        push_matched(&mut out, walk, page, element, &mut indices)?;
+    let count = range.to.min(page.len()).saturating_sub(range.from);
+    for index in 0..count {
+        push_matched(&mut out, walk, page, range.from + index, &mut indices)?;
         check_count(&out, most)?;
     }
     Ok(out)
 }
 
-/// The numbers of the rules that match each element of a page, where a document reads selectors in this
-/// way.
-pub fn page_matches(
+/// The numbers of the rules that match each element of a range, where a document reads selectors in this way.
+pub fn range_matches(
     alloc: Global,
     rules: &[SheetRule<'_>],
     kind: DocumentKind,
     page: &NumberedTree<'_, '_>,
+    range: ElementRange,
     most: usize,
 ) -> Result<Vec<usize>, CallError>
     ensures { let all = map sheet_rule_of rules.now in
-        MatchResult result (λ out. AreMatched most (selector_as kind) all page.now (Some out.items))
-        (FailsLonger (AreMatched most (selector_as kind) all page.now None)) }
+        MatchResult result (λ out. AreMatched most range (selector_as kind) all page.now (Some out.items))
+        (FailsLonger (AreMatched most range (selector_as kind) all page.now None)) }
 {
     match kind {
         DocumentKind::AsWritten => {
             let mut walk = TreeWalk::new(alloc, rules)?;
-            matched_by(alloc, &mut walk, page, most)
+            matched_by(alloc, &mut walk, page, range, most)
         }
         DocumentKind::Html(mode) => {
             let selectors = html_rule_selectors(alloc, mode, rules)?;
             let mut walk = TreeWalk::new(alloc, &selectors)?;
-            matched_by(alloc, &mut walk, page, most)
+            matched_by(alloc, &mut walk, page, range, most)
         }
     }
 }

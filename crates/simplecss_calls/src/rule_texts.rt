@@ -1,15 +1,14 @@
-//! The texts of the selectors of the rules of sheets.
+//! The texts of the selectors of rules.
 
 ghost use Rattle.std.specs.Prelude.{◌≡◌, ◌≤◌, ◌<◌, MatchResult, length, map, string_bytes};
 ghost use Rattle.css_sheet.specs.SheetRuleViews.{sheet_rule_of};
 ghost use Rattle.call_answers.specs.Calls.{FailsLonger};
 ghost use Rattle.call_answers.specs.Outcomes.{outcome_of};
-ghost use Rattle.simplecss_calls.specs.WinnerNumbers.{sheets_of};
-ghost use Rattle.simplecss_calls.specs.RuleTexts.{rule_texts as rule_texts_of, IsRuleTextsCall};
+ghost use Rattle.simplecss_calls.specs.RuleTexts.{rule_texts as rule_texts_of, AreRuleTexts};
 
-use crate::winners::{Sheets, read_rules};
 use call_answers::answer::{CallError, check_length};
 use css_sheet::SheetRule;
+use css_styles::StyleRules;
 use std::alloc::Global;
 
 /// Returns the texts of the selectors of rules, one after another, in at most this number of bytes.
@@ -26,15 +25,9 @@ fn texts(alloc: Global, rules: &[SheetRule<'_>], most: usize) -> Result<String, 
     Ok(out)
 }
 
-/// The texts of the selectors of the rules of sheets, in the order of the cascade.
-pub fn rule_texts(
-    alloc: Global,
-    sheets: Sheets<'_>,
-    limit: usize,
-    most: usize,
-) -> Result<String, CallError>
-    ensures { IsRuleTextsCall most limit (sheets_of sheets.entry) (outcome_of result) }
+/// The texts of the selectors of rules, in at most this number of bytes.
+pub fn rule_texts(alloc: Global, rules: &StyleRules<'_>, most: usize) -> Result<String, CallError>
+    ensures { AreRuleTexts most rules.now.rules (outcome_of result) }
 {
-    let rules = read_rules(alloc, sheets, limit)?;
     texts(alloc, rules.as_slice(), most)
 }

@@ -10,11 +10,12 @@ ghost use Rattle.css_sheet.specs.GroupViews.{group_rule_of};
 ghost use Rattle.css_sheet.specs.SheetRuleViews.{sheet_of, sheet_rule_of};
 ghost use Rattle.css_sheet.specs.declared.sheet_error.SheetError.TheVariants.{TooManyDeclarations, TooManyLayers};
 ghost use Rattle.css_styles.specs.StyleViews.{names_of, own_of, winner_of};
-ghost use Rattle.css_tree.specs.Html.{html_selector};
-ghost use Rattle.css_tree.specs.Walks.{IsOpenAt};
+ghost use Rattle.css_tree.specs.Html.{html_selector, list_in};
+ghost use Rattle.css_tree.specs.Marks.{AreMarked};
 ghost use Rattle.call_answers.specs.Calls.{FailsLonger};
 ghost use Rattle.call_answers.specs.Numbers.{offset as offset_of};
 ghost use Rattle.call_answers.specs.Outcomes.{numbers_outcome};
+ghost use Rattle.page_calls.specs.MarkedPages.{list_as};
 ghost use Rattle.page_calls.specs.Readings.{selector_as};
 ghost use Rattle.simplecss_calls.specs.WinnerNumbers.{is_held as is_held_of};
 ghost use Rattle.simplecss_calls.specs.internal.Held.{is_among, names_at};
@@ -25,13 +26,12 @@ ghost use Rattle.simplecss_calls.specs.WinnerNumbers.{source_number as source_nu
 ghost use Rattle.simplecss_calls.specs.WinnerNumbers.{option_numbers, winner_numbers, winners_numbers};
 ghost use Rattle.simplecss_calls.specs.WinnerNumbers.{origin_of as origin_of_number, sheets_with as sheets_with_of};
 ghost use Rattle.simplecss_calls.specs.WinnerNumbers.{first_number as first_number_of, later_numbers as later_numbers_of};
-ghost use Rattle.simplecss_calls.specs.WinnerNumbers.{AreNumbers, AreWon, IsWon, IsWonOf, held_declarations, held_layers, held_rules};
-ghost use Rattle.simplecss_calls.specs.internal.Contents.{AreReadBy, asked_by, content_of, own_by};
-ghost use Rattle.simplecss_calls.specs.declared.contents.Content.TheVariants as contents;
-ghost use Rattle.simplecss_calls.specs.WinnerNumbers.{sheets_of, AreRules, FailsBeside, IsRulesCall};
+ghost use Rattle.simplecss_calls.specs.WinnerNumbers.{AreWon, IsWon, IsWonOf, held_declarations, held_layers, held_rules};
+ghost use Rattle.simplecss_calls.specs.internal.Contents.{AreReadBy, asked_by, asked_in, own_by};
+ghost use Rattle.simplecss_calls.specs.WinnerNumbers.{sheets_of, AreRules, FailsBeside};
 
 use crate::around::{first_rules, group_rules, later_rules};
-use crate::contents::{Won, own_at};
+use crate::contents::{AskedProperties, own_at};
 use crate::held::{is_held, read_held};
 use call_answers::answer::{CallError, check_count};
 use call_answers::texts::texts_of;
@@ -44,7 +44,7 @@ use css_syntax::places::declaration_value;
 use css_syntax::{Declaration, Item};
 use css_tree::NumberedTree;
 use css_tree::html::HtmlMode;
-use page_calls::modern::{DocumentKind, html_rule_selectors};
+use page_calls::modern::{DocumentKind, ElementRange, html_rule_selectors};
 use std::alloc::{AllocError, Global};
 
 /// The texts of style sheets and of the group rules that hold, as the caller of a function passes them.
@@ -175,7 +175,7 @@ fn push_rule(out: &mut Vec<usize>, alloc: Global, rule: &SheetRule<'_>) -> Resul
 }
 
 /// Returns the numbers of rules.
-fn rules_numbers(alloc: Global, rules: &[SheetRule<'_>]) -> Result<Vec<usize>, AllocError>
+pub fn rules_numbers(alloc: Global, rules: &[SheetRule<'_>]) -> Result<Vec<usize>, AllocError>
     ensures { IfOk result (λ out. out.items ≡ flat_map rule_numbers (map sheet_rule_of rules.now)) }
 {
     let mut out = Vec::new(alloc);
@@ -309,16 +309,8 @@ pub fn read_rules<'a>(
     Ok(rules)
 }
 
-/// The numbers of the rules of sheets, in the order of the cascade.
-pub fn rules(alloc: Global, sheets: Sheets<'_>, limit: usize) -> Result<Vec<usize>, CallError>
-    ensures { IsRulesCall limit (sheets_of sheets.entry) (numbers_outcome result) }
-{
-    let rules = read_rules(alloc, sheets, limit)?;
-    Ok(rules_numbers(alloc, rules.as_slice())?)
-}
-
 /// Returns the number of where a declaration is, among this number of rules.
-fn source_number(rules: usize, source: Source) -> usize
+pub(crate) fn source_number(rules: usize, source: Source) -> usize
     requires { rules < 2 ^ 63 }
     ensures { result ≡ source_number_of rules source }
 {
@@ -399,11 +391,11 @@ fn push_options(
 
 /// What is to be found of elements: what wins by these texts, two for each, of some properties or of all.
 #[derive(Clone, Copy)]
-pub(crate) struct Wanted<'w, 't> {
+pub(crate) struct Wanted<'w, 't, 'n> {
     /// Two texts for each element.
     pub(crate) own: &'w [&'t str],
     /// The names of each property, if only some are asked for.
-    pub(crate) asked: Option<&'w [&'w [&'t str]]>,
+    pub(crate) asked: Option<&'w [&'w [&'n str]]>,
 }
 
 /// What is found of an element. These lists are used again.
@@ -419,96 +411,90 @@ struct Found<'a> {
 /// What was found before is dropped.
 fn push_all<'a>(
     out: &mut Vec<usize>,
-    styles: &mut Styles<'_, 'a, '_>,
-    page: &NumberedTree<'_, '_>,
+    styles: &mut Styles<'_, 'a, '_, '_, '_>,
     element: usize,
     own: Own<'a>,
     found: &mut Vec<Winner<'a>>,
 ) -> Result<(), AllocError>
-    requires element { element < length page.now.rows }
-    requires opened { IsOpenAt page.now styles.old.walk styles.old.place }
+    requires { element < length styles.old.page.rows }
     ensures written { (read : SelectorText → SelectorText)
         → AreReadBy read styles.old.rules styles.old.walk.selectors
-        → OnOk result ((line : List ℕ) × IsWon None (own_of own.entry) read styles.old.rules page.now element line
+        → OnOk result ((line : List ℕ) × IsWon None (own_of own.entry) read styles.old.rules styles.old.page
+        element line
         × (out.new.items ≡ out.old.items ++ line)) }
-    ensures opened { IsOpenAt page.now styles.new.walk styles.new.place }
     ensures rules { styles.new.rules ≡ styles.old.rules }
+    ensures page { styles.new.page ≡ styles.old.page }
     ensures selectors { styles.new.walk.selectors ≡ styles.old.walk.selectors }
 {
     let rules = styles.rule_count();
-    styles.winners(page, element, own, found, &mut Tests::new())?;
+    styles.winners(element, own, found, &mut Tests::new())?;
     push_winners(out, rules, found)
 }
 
 /// The same of each of these properties.
 fn push_asked<'a>(
     out: &mut Vec<usize>,
-    styles: &mut Styles<'_, 'a, '_>,
-    page: &NumberedTree<'_, '_>,
+    styles: &mut Styles<'_, 'a, '_, '_, '_>,
     element: usize,
     own: Own<'a>,
     asked: &[&[&str]],
     found: &mut Vec<Option<Winner<'a>>>,
 ) -> Result<(), AllocError>
-    requires element { element < length page.now.rows }
-    requires opened { IsOpenAt page.now styles.old.walk styles.old.place }
+    requires { element < length styles.old.page.rows }
     ensures written { (read : SelectorText → SelectorText)
         → AreReadBy read styles.old.rules styles.old.walk.selectors
         → OnOk result ((line : List ℕ) × IsWon (Some (names_of asked.now)) (own_of own.entry) read
-        styles.old.rules page.now element line
+        styles.old.rules styles.old.page element line
         × (out.new.items ≡ out.old.items ++ line)) }
-    ensures opened { IsOpenAt page.now styles.new.walk styles.new.place }
     ensures rules { styles.new.rules ≡ styles.old.rules }
+    ensures page { styles.new.page ≡ styles.old.page }
     ensures selectors { styles.new.walk.selectors ≡ styles.old.walk.selectors }
 {
     let rules = styles.rule_count();
-    styles.winners_named(page, element, own, asked, found, &mut Tests::new())?;
+    styles.winners_named(element, own, asked, found, &mut Tests::new())?;
     push_options(out, rules, found)
 }
 
 /// The same of what is wanted.
 fn push_element<'a>(
     out: &mut Vec<usize>,
-    styles: &mut Styles<'_, 'a, '_>,
-    page: &NumberedTree<'_, '_>,
+    styles: &mut Styles<'_, 'a, '_, '_, '_>,
     element: usize,
-    wanted: Wanted<'_, 'a>,
+    wanted: Wanted<'_, 'a, '_>,
     found: &mut Found<'a>,
 ) -> Result<(), AllocError>
-    requires element { element < length page.now.rows }
-    requires opened { IsOpenAt page.now styles.old.walk styles.old.place }
+    requires { element < length styles.old.page.rows }
     ensures written { (read : SelectorText → SelectorText)
         → AreReadBy read styles.old.rules styles.old.walk.selectors
         → OnOk result ((line : List ℕ) × IsWonOf (asked_by wanted.entry) (own_by wanted.entry) read styles.old.rules
-        page.now element line
+        styles.old.page element line
         × (out.new.items ≡ out.old.items ++ line)) }
-    ensures opened { IsOpenAt page.now styles.new.walk styles.new.place }
     ensures rules { styles.new.rules ≡ styles.old.rules }
+    ensures page { styles.new.page ≡ styles.old.page }
     ensures selectors { styles.new.walk.selectors ≡ styles.old.walk.selectors }
 {
     let own = own_at(wanted.own, element);
     match wanted.asked {
-        None => push_all(out, styles, page, element, own, &mut found.all),
-        Some(asked) => push_asked(out, styles, page, element, own, asked, &mut found.named),
+        None => push_all(out, styles, element, own, &mut found.all),
+        Some(asked) => push_asked(out, styles, element, own, asked, &mut found.named),
     }
 }
 
-/// The numbers of what wins on each element of a page, by a walk, at most so many.
+/// The numbers of what wins on each element of a range, by a walk, at most so many.
 fn numbers_by<'a>(
     alloc: Global,
-    styles: Styles<'_, 'a, '_>,
-    page: &NumberedTree<'_, '_>,
-    wanted: Wanted<'_, 'a>,
+    styles: Styles<'_, 'a, '_, '_, '_>,
+    wanted: Wanted<'_, 'a, '_>,
+    range: ElementRange,
     most: usize,
 ) -> Result<Vec<usize>, CallError>
-    requires { IsOpenAt page.now styles.walk styles.place }
     ensures { (read : SelectorText → SelectorText)
         → AreReadBy read styles.entry.rules styles.entry.walk.selectors
         → MatchResult result
-        (λ out. AreWon (asked_by wanted.entry) (own_by wanted.entry) most read styles.entry.rules page.now
-        (Some out.items))
-        (FailsLonger (AreWon (asked_by wanted.entry) (own_by wanted.entry) most read styles.entry.rules
-        page.now None)) }
+        (λ out. AreWon (asked_by wanted.entry) (own_by wanted.entry) most range read styles.entry.rules
+        styles.entry.page (Some out.items))
+        (FailsLonger (AreWon (asked_by wanted.entry) (own_by wanted.entry) most range read styles.entry.rules
+        styles.entry.page None)) }
 {
     let mut styles = styles;
     let mut found = Found {
@@ -516,122 +502,108 @@ fn numbers_by<'a>(
         named: Vec::new(alloc),
     };
     let mut out = Vec::new(alloc);
-    for element in 0..page.len() {
-        push_element(&mut out, &mut styles, page, element, wanted, &mut found)?;
+    let count = range
+        .to
+        .min(styles.element_count())
+        .saturating_sub(range.from);
+    for index in 0..count {
+        push_element(
+            &mut out,
+            &mut styles,
+            range.from + index,
+            wanted,
+            &mut found,
+        )?;
         check_count(&out, most)?;
     }
     Ok(out)
 }
 
-/// The numbers of what wins on each element of a page, by selectors as they are written.
+/// The numbers of what wins on each element of a range, by selectors as they are written.
 fn numbers_as_written<'a>(
     alloc: Global,
     rules: &StyleRules<'a>,
     page: &NumberedTree<'_, '_>,
-    wanted: Wanted<'_, 'a>,
+    wanted: Wanted<'_, 'a, '_>,
+    range: ElementRange,
     most: usize,
 ) -> Result<Vec<usize>, CallError>
-    ensures { let are = AreWon (asked_by wanted.entry) (own_by wanted.entry) most (λ s. s)
+    requires { AreMarked rules.now.lists page.now }
+    ensures { let are = AreWon (asked_by wanted.entry) (own_by wanted.entry) most range (λ s. s)
         rules.now.rules page.now in
         MatchResult result (λ out. are (Some out.items)) (FailsLonger (are None)) }
 {
-    let styles = Styles::new(alloc, rules)?;
-    numbers_by(alloc, styles, page, wanted, most)
+    let styles = Styles::new(alloc, rules, page)?;
+    numbers_by(alloc, styles, wanted, range, most)
 }
 
-/// The numbers of what wins on each element of a page, by selectors as an HTML document reads them.
+/// The numbers of what wins on each element of a range, by selectors as an HTML document reads them.
 fn numbers_in_html<'a>(
     alloc: Global,
     rules: &StyleRules<'a>,
     mode: HtmlMode,
     page: &NumberedTree<'_, '_>,
-    wanted: Wanted<'_, 'a>,
+    wanted: Wanted<'_, 'a, '_>,
+    range: ElementRange,
     most: usize,
 ) -> Result<Vec<usize>, CallError>
-    ensures { let are = AreWon (asked_by wanted.entry) (own_by wanted.entry) most (html_selector mode)
+    requires { AreMarked (map (list_in mode) rules.now.lists) page.now }
+    ensures { let are = AreWon (asked_by wanted.entry) (own_by wanted.entry) most range (html_selector mode)
         rules.now.rules page.now in
         MatchResult result (λ out. are (Some out.items)) (FailsLonger (are None)) }
 {
     let selectors = html_rule_selectors(alloc, mode, rules.as_slice())?;
-    let styles = Styles::with_selectors(alloc, rules, &selectors)?;
-    numbers_by(alloc, styles, page, wanted, most)
+    let styles = Styles::in_html(alloc, rules, &selectors, page)?;
+    numbers_by(alloc, styles, wanted, range, most)
 }
 
-/// The numbers of what wins on each element of a page, where a document reads selectors in this way.
+/// The numbers of what wins on each element of a range, where a document reads selectors in this way.
 fn wanted_numbers<'a>(
     alloc: Global,
     rules: &StyleRules<'a>,
     kind: DocumentKind,
     page: &NumberedTree<'_, '_>,
-    wanted: Wanted<'_, 'a>,
+    wanted: Wanted<'_, 'a, '_>,
+    range: ElementRange,
     most: usize,
 ) -> Result<Vec<usize>, CallError>
-    ensures { let are = AreWon (asked_by wanted.entry) (own_by wanted.entry) most (selector_as kind)
+    requires { AreMarked (map (list_as kind) rules.now.lists) page.now }
+    ensures { let are = AreWon (asked_by wanted.entry) (own_by wanted.entry) most range (selector_as kind)
         rules.now.rules page.now in
         MatchResult result (λ out. are (Some out.items)) (FailsLonger (are None)) }
 {
     match kind {
-        DocumentKind::AsWritten => numbers_as_written(alloc, rules, page, wanted, most),
-        DocumentKind::Html(mode) => numbers_in_html(alloc, rules, mode, page, wanted, most),
+        DocumentKind::AsWritten => numbers_as_written(alloc, rules, page, wanted, range, most),
+        DocumentKind::Html(mode) => numbers_in_html(alloc, rules, mode, page, wanted, range, most),
     }
 }
 
-/// The numbers of what wins on each element of a page, of each property.
-fn all_numbers<'a>(
+/// The numbers of what wins on each element of a range, of these properties, or of each.
+pub fn range_winners<'a>(
     alloc: Global,
     rules: &StyleRules<'a>,
     kind: DocumentKind,
     page: &NumberedTree<'_, '_>,
     own: &[&'a str],
+    asked: Option<&AskedProperties<'_>>,
+    range: ElementRange,
     most: usize,
 ) -> Result<Vec<usize>, CallError>
-    ensures { let are = AreWon None (map (λ text. text.now) own.now) most (selector_as kind)
-        rules.now.rules page.now in
+    requires { AreMarked (map (list_as kind) rules.now.lists) page.now }
+    ensures { let are = AreWon (option_map (λ asked. asked_in asked.now) asked.entry) (map (λ text. text.now) own.now)
+        most range (selector_as kind) rules.now.rules page.now in
         MatchResult result (λ out. are (Some out.items)) (FailsLonger (are None)) }
 {
-    let wanted = Wanted { own, asked: None };
-    wanted_numbers(alloc, rules, kind, page, wanted, most)
-}
-
-/// The numbers of what wins on each element of a page, of each of these properties.
-fn named_numbers<'a>(
-    alloc: Global,
-    rules: &StyleRules<'a>,
-    kind: DocumentKind,
-    page: &NumberedTree<'_, '_>,
-    own: &[&'a str],
-    asked: &[&[&'a str]],
-    most: usize,
-) -> Result<Vec<usize>, CallError>
-    ensures { let are = AreWon (Some (names_of asked.now)) (map (λ text. text.now) own.now) most
-        (selector_as kind) rules.now.rules page.now in
-        MatchResult result (λ out. are (Some out.items)) (FailsLonger (are None)) }
-{
-    let wanted = Wanted {
-        own,
-        asked: Some(asked),
-    };
-    wanted_numbers(alloc, rules, kind, page, wanted, most)
-}
-
-/// The numbers of what wins on each element of a page.
-pub fn page_winners<'a>(
-    alloc: Global,
-    rules: &StyleRules<'a>,
-    kind: DocumentKind,
-    page: &NumberedTree<'_, '_>,
-    won: &Won<'a>,
-    most: usize,
-) -> Result<Vec<usize>, CallError>
-    ensures { let are = AreNumbers (content_of (contents.Won won.now)) most (selector_as kind)
-        rules.now.rules page.now in
-        MatchResult result (λ out. are (Some out.items)) (FailsLonger (are None)) }
-{
-    match &won.asked {
-        None => all_numbers(alloc, rules, kind, page, &won.own, most),
+    match asked {
+        None => {
+            let wanted = Wanted { own, asked: None };
+            wanted_numbers(alloc, rules, kind, page, wanted, range, most)
+        }
         Some(asked) => {
             let groups = asked.groups(alloc)?;
-            named_numbers(alloc, rules, kind, page, &won.own, &groups, most)
+            let asked = Some(groups.as_slice());
+            let wanted = Wanted { own, asked };
+            wanted_numbers(alloc, rules, kind, page, wanted, range, most)
         }
     }
 }

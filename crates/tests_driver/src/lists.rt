@@ -11,7 +11,7 @@ use std::io::{ErrorKind, Write};
 
 /// Whether one of the selectors matches the element.
 fn is_matched<E: Element>(selectors: &[Selector<'_>], element: &E) -> bool {
-    selectors.iter().any(|selector| selector.matches(element))
+    selectors.iter().any(|selector| selector.matches_counted(element, &mut Tests::new()))
 }
 
 /// Writes what the selectors match.

@@ -1,10 +1,9 @@
-//! How often elements are tested while a selector is matched, rules are found, or a winner is sought.
+//! How often elements are tested while a selector is matched, or rules are found.
 
 use css_elements::Tree;
 use css_index::{Keyed, SelectorIndex};
 use css_selectors::{Element, Matching, NamespacedAttribute, Selector, Tests};
 use css_sheet::{SheetRule, read_sheet};
-use css_styles::{Own, winning};
 use css_tree::{NumberedNode, NumberedTree};
 use std::alloc::Global;
 use std::cell::Cell;
@@ -160,7 +159,7 @@ fn counts_tests(rt: HostRuntime) -> Result<(), Fail> {
             let found = if is_counted {
                 selector.matches_counted(&element, &mut Tests::new())
             } else {
-                selector.matches(&element)
+                selector.matches(&element) == Some(true)
             };
             assert_eq!(rt; found, *answer, "the answer of {text}");
             assert_eq!(rt; names.get(), *tests, "the tests of {text}");
@@ -170,26 +169,24 @@ fn counts_tests(rt: HostRuntime) -> Result<(), Fail> {
 }
 
 /// Rules, and how often names are tested while the rules that match the last element are found by an
-/// index, and while the winner for `p` is sought. An index tests no rule of which the element does not
-/// report a key; a winner is sought among the rules that state the property, each of which is tested
-/// once.
-const SEARCHED: &[(&str, u64, u64)] = &[
-    ("*{p:q}", 0, 0),
-    ("c{p:q}", 1, 1),
-    ("b{p:q}", 0, 1),
-    ("a c{p:q}", 2, 2),
-    ("x c{p:q}", 4, 4),
-    ("x > c{p:q}", 2, 2),
-    ("b + c{p:q} x c{r:q}", 6, 2),
-    ("a c{p:q} x c{p:q} b + c{p:q} b > a{p:q}", 8, 9),
+/// index: it tests no rule of which the element does not report a key.
+const SEARCHED: &[(&str, u64)] = &[
+    ("*{p:q}", 0),
+    ("c{p:q}", 1),
+    ("b{p:q}", 0),
+    ("a c{p:q}", 2),
+    ("x c{p:q}", 4),
+    ("x > c{p:q}", 2),
+    ("b + c{p:q} x c{r:q}", 6),
+    ("a c{p:q} x c{p:q} b + c{p:q} b > a{p:q}", 8),
 ];
 
-/// Returns how often names are tested while the rules are found, and while the winner is sought.
+/// Returns how often names are tested while the rules are found.
 fn tests_of(
     alloc: Global,
     rules: &[SheetRule<'static>],
     node: NumberedNode<'_, '_, '_>,
-) -> Result<(u64, u64), Fail> {
+) -> Result<u64, Fail> {
     let names = Cell::new(0);
     let element = Counted {
         node,
@@ -197,13 +194,7 @@ fn tests_of(
     };
     let index = SelectorIndex::new(alloc, rules)?;
     index.matching(&element, &mut Vec::new(alloc))?;
-    let for_index = names.get();
-    let own = Own {
-        style: "",
-        presentation: "",
-    };
-    let _ = winning(alloc, rules, &element, own, "p")?;
-    Ok((for_index, names.get().saturating_sub(for_index)))
+    Ok(names.get())
 }
 
 #[test]
@@ -212,13 +203,13 @@ fn counts_searches(rt: HostRuntime) -> Result<(), Fail> {
     let Ok(page) = NumberedTree::new(rt.alloc(), &tree) else {
         return Err(Fail::from("not counted"));
     };
-    for (text, for_index, for_winner) in SEARCHED {
+    for (text, wanted) in SEARCHED {
         let Ok(sheet) = read_sheet(rt.alloc(), text, usize::MAX, |_, _| false) else {
             return Err(Fail::from("refused"));
         };
         let node = page.node(6).ok_or("no element")?;
         let tests = tests_of(rt.alloc(), sheet.rules.as_slice(), node)?;
-        assert_eq!(rt; tests, (*for_index, *for_winner), "the tests of {text}");
+        assert_eq!(rt; tests, *wanted, "the tests of {text}");
     }
     Ok(())
 }

@@ -1,12 +1,13 @@
 use Rattle.std.proofs.Common.{◌≡◌, ◌+◌, ◌++◌, ℕ, List, length, Some, None, ◌∙◌, subst, arith}
 use Rattle.cssq.proofs.MatchLines.{lines_more}
+use Rattle.page_calls.specs.Ranges.{count_in}
 use Rattle.simplecss_calls.specs.WinnerNumbers.{AreMatchedBy, IsMatchedBy}
 use Rattle.call_answers.proofs.PageLines.{lines_done, longer_due, memory_due}
 use Rattle.simplecss_calls.proofs.matches.matched_by.Goals as goal
 
 pub returns-in_err-push_matched : goal.returns-in_err-push_matched
 returns-in_err-push_matched c =
-    let are = AreMatchedBy c.args.most c.args.walk.now.walk.selectors c.args.page.now in
+    let are = AreMatchedBy c.args.most c.args.range c.args.walk.now.walk.selectors c.args.page.now in
     memory_due (λ out. are (Some out.items)) (are None) c.from_residual.result
     c.from_residual.ensures.1
 
@@ -15,37 +16,37 @@ pub returns-in_err-check_count : goal.returns-in_err-check_count
 returns-in_err-check_count c =
     let page = c.args.page.now in
     let selectors = c.args.walk.now.walk.selectors in
-    let are = AreMatchedBy c.args.most selectors page in
-    let added = subst (λ ss. (line : List ℕ) × IsMatchedBy ss page c.loop-element.element line
-    × (c.push_matched.new.out.items ≡ c.loop-element.out.items ++ line))
-    c.loop-element.invariant.selectors c.in_ok-push_matched.ensures.written in
-    longer_due (λ out. are (Some out.items)) c.args.most (IsMatchedBy selectors page)
-    (c.loop-element.element + 1) (length page.rows) c.push_matched.new.out.items
-    (lines_more c.loop-element.invariant.lines.so_far added.0 c.push_matched.new.out.items added.1
+    let are = AreMatchedBy c.args.most c.args.range selectors page in
+    let added = subst (λ ss. (line : List ℕ) × IsMatchedBy ss page (c.args.range.from + c.loop-index.index) line
+    × (c.push_matched.new.out.items ≡ c.loop-index.out.items ++ line))
+    c.loop-index.invariant.selectors c.in_ok-push_matched.ensures.written in
+    longer_due (λ out. are (Some out.items)) c.args.most (λ index. IsMatchedBy selectors page (c.args.range.from + index))
+    (c.loop-index.index + 1) (count_in c.args.range (length page.rows)) c.push_matched.new.out.items
+    (lines_more c.loop-index.invariant.lines.so_far added.0 c.push_matched.new.out.items added.1
     added.2) (omega arith) c.from_residual-in_err-check_count.result
     c.in_err-check_count.field-0.0 c.from_residual-in_err-check_count.ensures.1
     c.in_err-check_count.ensures
 
 -- the numbers of one more element
-pub loop-element-preserved : goal.loop-element-preserved
-loop-element-preserved c =
+pub loop-index-preserved : goal.loop-index-preserved
+loop-index-preserved c =
     let added = subst (λ ss. (line : List ℕ)
-    × IsMatchedBy ss c.args.page.now c.loop-element.element line
-    × (c.push_matched.new.out.items ≡ c.loop-element.out.items ++ line))
-    c.loop-element.invariant.selectors c.in_ok-push_matched.ensures.written in
+    × IsMatchedBy ss c.args.page.now (c.args.range.from + c.loop-index.index) line
+    × (c.push_matched.new.out.items ≡ c.loop-index.out.items ++ line))
+    c.loop-index.invariant.selectors c.in_ok-push_matched.ensures.written in
     record {
       lines = record {
-        so_far = lines_more c.loop-element.invariant.lines.so_far added.0
+        so_far = lines_more c.loop-index.invariant.lines.so_far added.0
             c.push_matched.new.out.items added.1 added.2;
         short = c.in_ok-check_count.ensures;
       };
       opened = c.in_ok-push_matched.ensures.opened;
-      selectors = c.in_ok-push_matched.ensures.selectors ∙ c.loop-element.invariant.selectors;
+      selectors = c.in_ok-push_matched.ensures.selectors ∙ c.loop-index.invariant.selectors;
     }
 
 pub returns : goal.returns
 returns c =
     let page = c.args.page.now in
-    lines_done c.args.most (IsMatchedBy c.args.walk.now.walk.selectors page)
-    c.loop-element.element (length page.rows) c.loop-element.out.items
-    c.loop-element.invariant.lines (omega arith)
+    lines_done c.args.most (λ index. IsMatchedBy c.args.walk.now.walk.selectors page (c.args.range.from + index))
+    c.loop-index.index (count_in c.args.range (length page.rows)) c.loop-index.out.items
+    c.loop-index.invariant.lines (omega arith)

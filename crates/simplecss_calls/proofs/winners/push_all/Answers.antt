@@ -12,7 +12,7 @@ pub returns-clause-written : goal.returns-clause-written
 returns-clause-written c = λ read is_read.
     let count = c.rule_count-rules.result in
     let found = c.in_ok-winners.ensures.winners in
-    let node = spot c.args.page.now c.args.element in
+    let node = spot c.args.styles.now.page c.args.element in
     on_ok_weaker c.push_winners.result (λ wrote. (
       winners_numbers count (map winner_of c.deref.result.now),
       (

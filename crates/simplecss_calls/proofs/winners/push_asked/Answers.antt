@@ -16,7 +16,7 @@ returns-clause-written c = λ read is_read.
     let count = c.rule_count-rules.result in
     let best = c.in_ok-winners_named.ensures.winners in
     let found = map (option_map winner_of) c.deref.result.now in
-    let node = spot c.args.page.now c.args.element in
+    let node = spot c.args.styles.now.page c.args.element in
     on_ok_weaker c.push_options.result (λ wrote. (
       flat_map (option_numbers count) found,
       (

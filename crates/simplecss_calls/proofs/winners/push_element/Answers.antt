@@ -12,7 +12,7 @@ asked_of asked = option_map (λ all. names_of all.now) asked
 
 pub returns-in-None-clause-written : goal.returns-in-None-clause-written
 returns-in-None-clause-written c = λ read is_read.
-    let page = c.args.page.now in
+    let page = c.args.styles.now.page in
     let rules = c.args.styles.now.rules in
     subst (λ (own : OwnText). OnOk c.push_all.result ((line : List ℕ)
     × IsWon (asked_by c.args.wanted) own read rules page c.args.element line
@@ -24,7 +24,7 @@ returns-in-None-clause-written c = λ read is_read.
 
 pub returns-in-Some-clause-written : goal.returns-in-Some-clause-written
 returns-in-Some-clause-written c = λ read is_read.
-    let page = c.args.page.now in
+    let page = c.args.styles.now.page in
     let rules = c.args.styles.now.rules in
     subst (λ (own : OwnText). OnOk c.push_asked.result ((line : List ℕ)
     × IsWon (asked_by c.args.wanted) own read rules page c.args.element line
