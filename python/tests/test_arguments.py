@@ -91,7 +91,7 @@ class Arguments(unittest.TestCase):
             ]
             for each in (found, *members):
                 function = getattr(each, "__func__", getattr(each, "fget", each))
-                if inspect.isfunction(function):
+                if inspect.isfunction(function) or inspect.isclass(function):
                     typing.get_type_hints(function)
                     seen += 1
         self.assertGreater(seen, 50)

@@ -62,6 +62,11 @@ def styles(name: str, on: str, sheet: str) -> str:
     return "\n".join("; ".join(map(str, each)) for each in found)
 
 
+def any_value(name: str, on: str, sheet: str) -> str:
+    found = simplecss.StyleSheet(sheet).styles(page(name), media=device(on), any_value=True)
+    return "\n".join("; ".join(map(str, each)) for each in found)
+
+
 def alike(name: str, on: str, sheet: str, other: str) -> str:
     return "alike" if styles(name, on, sheet) == styles(name, on, other) else "different"
 
@@ -87,6 +92,7 @@ ANSWERS: Dict[str, Callable[..., str]] = {
     "any_case": select,
     "namespaces": in_namespaces,
     "styles": styles,
+    "any_value": any_value,
     "alike": alike,
     "declarations": lambda text: "; ".join(map(str, simplecss.declarations(text))),
     "name": lambda text: next(simplecss.tokens(text)).value,

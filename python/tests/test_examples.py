@@ -56,7 +56,7 @@ class Guide(unittest.TestCase):
     def test_answers(self) -> None:
         name = os.path.join(EXAMPLES, "..", "docs", "PYTHON.md")
         failed, tried = doctest.testfile(name, module_relative=False, encoding="utf-8")
-        self.assertEqual((failed, tried), (0, 6))
+        self.assertEqual((failed, tried), (0, 9))
 
 
 class Examples(unittest.TestCase):

@@ -126,11 +126,11 @@ class Explanations(unittest.TestCase):
     def test_places(self) -> None:
         sheet = "\u00e4{}\n@layer a.b {\n  @layer c { p { top: 0; color: red } }\n}\n@layer { p { color: blue } }"
         one, other = first(sheet, "<p>").contenders
-        self.assertEqual((one.place, one.layer), ((0, None, 5, 14), "(anonymous)"))
-        self.assertEqual((other.place, other.layer), ((0, None, 3, 26), "a.b.c"))
+        self.assertEqual((one.place[:4], one.layer), ((0, None, 5, 14), "(anonymous)"))
+        self.assertEqual((other.place[:4], other.layer), ((0, None, 3, 26), "a.b.c"))
         self.assertEqual((one.selector, one.specificity, one.important), ("p", (0, 0, 1), False))
         one = first("", "<div>\n <p style='color: red'>").contenders[0]
-        self.assertEqual((one.place, one.selector), ((None, None, 2, 2), None))
+        self.assertEqual((one.place[:4], one.selector), ((None, None, 2, 2), None))
 
     def test_shorthands(self) -> None:
         sheet = "p{margin:1px} p{margin-top:2px} p{margin-block:3px}"

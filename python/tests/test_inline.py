@@ -14,6 +14,7 @@ sys.path.insert(0, os.path.join(os.path.dirname(__file__), "..", "src"))
 
 import simplecss  # noqa: E402
 from simplecss import StyleSheet, Tree, _library, inline  # noqa: E402
+from simplecss._kept import STATEMENTS  # noqa: E402
 
 
 def style_of(css, page="<p class='a b' id=x>", **options):
@@ -418,9 +419,9 @@ class ManyDocuments(unittest.TestCase):
         call = _library.call
         with unittest.mock.patch.object(_library, "call", side_effect=call) as calls:
             texts = [inliner.inline(f"<a>{number}") for number in range(200)]
-        names = [each.args[0] for each in calls.call_args_list]
+        asked = [each.args[::2] for each in calls.call_args_list]
         # The sheet, and the block in it that is one of rules.
-        self.assertLessEqual(names.count("simplecss_read"), 4)
+        self.assertLessEqual(asked.count(("simplecss_sheet_numbers", STATEMENTS)), 4)
         self.assertEqual(texts[7].rpartition("</style>")[2], '<a style="n: 1">7')
 
     def test_a_text_is_read_once(self):
@@ -430,8 +431,8 @@ class ManyDocuments(unittest.TestCase):
         with unittest.mock.patch.object(_library, "call", side_effect=call) as calls:
             for number in range(100):
                 self.assertIn('style="n: 1"', inline(f"<a>{number}", css, attributes=number < 50))
-        names = [each.args[0] for each in calls.call_args_list]
-        self.assertLessEqual(names.count("simplecss_read"), 4)
+        asked = [each.args[::2] for each in calls.call_args_list]
+        self.assertLessEqual(asked.count(("simplecss_sheet_numbers", STATEMENTS)), 4)
 
     def test_options_of_each(self):
         sheets = {"http://h/x/a.css": "b{m:2}", "http://h/y/a.css": "b{m:3}"}

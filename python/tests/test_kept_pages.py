@@ -150,6 +150,8 @@ class Parts(unittest.TestCase):
 
 class Lasting(unittest.TestCase):
     def test_pages_are_freed(self):
+        # Those of other tests are no part of this.
+        gc.collect()
         with Calls() as calls:
             for _ in range(20):
                 tree = cards(3)

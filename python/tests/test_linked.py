@@ -308,6 +308,30 @@ class Loaded(unittest.TestCase):
         with self.assertRaises(TypeError):
             color_of("<link rel=stylesheet href=a><p>", load=lambda url: b"")
 
+    def test_urls_before_a_base(self):
+        """A link before the `base` is not taken from it, and a `base` in a drawing is none (HTML Standard,
+        sections 4.2.3 and 4.2.4)."""
+        for page, expected in (
+            ("<link rel=stylesheet href=a.css><base href=../c/>", "https://h/a/a.css"),
+            ("<base href=../c/><link rel=stylesheet href=a.css>", "https://h/c/a.css"),
+            ("<svg><base href=../c/></svg><link rel=stylesheet href=a.css>", "https://h/a/a.css"),
+            ("<base><base href=../c/><link rel=stylesheet href=a.css>", "https://h/c/a.css"),
+        ):
+            for call in (
+                lambda load: inline(page, at="https://h/a/b.html", load=load),
+                lambda load: color_of(page, at="https://h/a/b.html", load=load),
+            ):
+                asked = []
+                call(asked.append)
+                self.assertEqual(asked, [expected], page)
+
+    def test_titles(self):
+        """A link without a url is no sheet, and names no preferred title (HTML Standard, section 4.2.4)."""
+        for url, expected in (("", "red"), ("a.css", "green")):
+            page = f"<link rel=stylesheet title=t href='{url}'><style title=u>p{{color:red}}</style><p>"
+            load = {"https://h/a.css": "p{color:green}"}.get
+            self.assertEqual(color_of(page, at="https://h/b.html", load=load)[0], expected)
+
     def test_data(self):
         text = base64.b64encode(b"p{color:red}").decode()
         for data, expected in (

@@ -148,9 +148,9 @@ class Mistakes(unittest.TestCase):
                 "a { TOP: 0; left: 0; top: 1px; top: 2px; top: 2px }",
                 ["TOP: 0", "top: 2px"],
             ),
-            ("a { --x: 0; top: 0; --x: 1 }", ["--x: 0"]),
+            ("a { --x: 0; top: 0; --x: 1 }", ["--x: 1"]),
             # A custom property takes any value, so that none is for other browsers.
-            ("a { --x: 0; --x: var(--y, 1) }", ["--x: 0"]),
+            ("a { --x: 0; --x: var(--y, 1) }", ["--x: var(--y, 1)"]),
         ):
             found = [each.text for each in simplecss.lint(text)]
             self.assertEqual(found, expected, text)
@@ -267,9 +267,62 @@ class Mistakes(unittest.TestCase):
             found = [each.text for each in simplecss.lint(text) if each.kind == kind]
             self.assertEqual(found, expected, text)
 
+    def test_in_rules(self):
+        for text, expected in (
+            ("a, b , a { top: 0 } @media x { c,/**/d, /**/d { top: 0 } }", ["a", "d"]),
+            ("a  b, a\nb { top: 0 } :is(a, a), [b=','], ',' { top: 0 }", ["a\nb"]),
+            ("é, é { --x: 0; --X: 0; --x: 1; --x: 2 } a { --x: 0 }", ["é", "--x: 1", "--x: 2"]),
+            (
+                "@scope (a) { b, b { --x: 0; --x: 0 } } @starting-style { c, c { top: 0 } }",
+                ["b", "--x: 0", "c"],
+            ),
+            (
+                "@keyframes k { to { top: 0 ! important; left: 0; --x: 0; --x: 0!IMPORTANT } }",
+                ["top: 0 ! important", "--x: 0!IMPORTANT", "--x: 0!IMPORTANT"],
+            ),
+            ("@-WEBKIT-keyframes k { a { top: 0 !important } }", ["a", "top: 0 !important"]),
+            ("@media x { @keyframes k { to { top: 0!important", ["top: 0!important"]),
+        ):
+            kinds = ("repeated-", "important-", "invalid-keyframe")
+            found = [each.text for each in simplecss.lint(text) if each.kind.startswith(kinds)]
+            self.assertEqual(found, expected, text)
+
+    def test_layers(self):
+        for text, expected in (
+            (
+                "@layer a, b.c; @layer b { d { top: 0 } } @layer e.f { d { top: 0 } }",
+                ["@layer e.f"],
+            ),
+            # A list with one name says no order, and a layer in another one has its own names.
+            ("@layer a; @layer b { c { top: 0 } }", []),
+            ("@layer a, b; @layer a { @layer c { d { top: 0 } } } @layer { d { top: 0 } }", []),
+            ("@layer a, b; @media x { @layer c { d { top: 0 } } } @layer c;", []),
+            ("@layer a, b; @layer c { }", ["@layer c { }"]),
+            ("@layer { }", ["@layer { }"]),
+        ):
+            found = [each.text for each in simplecss.lint(text)]
+            self.assertEqual(found, expected, text)
+
+    def test_descriptors(self):
+        for text, expected in (
+            ("@counter-style a { system: fixed 3; symbols: '*' }", []),
+            ("@counter-style a { system: fixd 3 }", [("fixd", "fixed")]),
+            ("@font-face { font-display: Swap }", []),
+            ("@font-face { font-display: none }", [("none", None)]),
+            ("@property --x { syntax: '<length># | auto|<color>+'; inherits: false }", []),
+            (
+                "@property --x { syntax: '<colour>'; inherits: no }",
+                [("'<colour>'", None), ("no", None)],
+            ),
+            ("a { background: -webkit-gradient(linear, 0 0, 0 100%, from(red), to(blue)) }", []),
+        ):
+            found = [(each.text, each.hint) for each in simplecss.lint(text)]
+            self.assertEqual(found, expected, text)
+
     def test_style_attributes(self):
-        found = _lint.findings("a.html", "<p style='colr: red; top: 0; top: 0'>")
-        self.assertEqual([each.text for each in found], ["colr", "top: 0"])
+        page = "<p style='colr: red; top: 0; top: 0; --x: 0; --x: 1'>"
+        found = _lint.findings("a.html", page)
+        self.assertEqual([each.text for each in found], ["colr", "top: 0", "--x: 1"])
 
 
 class Values(unittest.TestCase):
@@ -503,9 +556,10 @@ class Fixes(unittest.TestCase):
         with tempfile.TemporaryDirectory() as folder:
             sheet = os.path.join(folder, "a.css")
             Path(sheet).write_bytes("\ufeffé { colr: red;\r\n src: x }\r\n".encode("utf-8"))
-            out = io.StringIO()
-            with redirect_stdout(out):
+            out, errors = io.StringIO(), io.StringIO()
+            with redirect_stdout(out), redirect_stderr(errors):
                 self.assertEqual(command.main(["lint", "--fix", sheet]), 1)
+            self.assertEqual(errors.getvalue(), f"simplecss: {sheet}: 1 corrected\n")
             self.assertEqual(out.getvalue(), f"{sheet}:2:2: 'src': unknown property\n")
             expected = "\ufeffé { color: red;\r\n src: x }\r\n".encode("utf-8")
             self.assertEqual(Path(sheet).read_bytes(), expected)
@@ -513,14 +567,14 @@ class Fixes(unittest.TestCase):
     def test_standard_input(self):
         """The corrected text is written, and what is left is reported on standard error."""
         for words, text, status, output, errors in (
-            (("--fix",), "a{colr:red}", 0, "a{color:red}", ""),
+            (("--fix",), "a{colr:red}", 0, "a{color:red}", "simplecss: -: 1 corrected\n"),
             (("--fix",), "a{color:red}\n", 0, "a{color:red}\n", ""),
             (
                 ("--fix",),
                 "é{colr:red;src:x}\n",
                 1,
                 "é{color:red;src:x}\n",
-                "-:1:13: 'src': unknown property\n",
+                "simplecss: -: 1 corrected\n-:1:13: 'src': unknown property\n",
             ),
             ((), "a{colr:red}", 1, f"-:1:3: 'colr': unknown property{HINT}\n", ""),
         ):

@@ -21,6 +21,7 @@ sys.path.insert(0, os.path.join(os.path.dirname(os.path.abspath(__file__)), ".."
 import simplecss  # noqa: E402
 from simplecss import __main__ as command, _library as library  # noqa: E402
 from simplecss._encoding import decode_page  # noqa: E402
+from simplecss._kept import STATEMENTS  # noqa: E402
 
 FOLDER = os.path.dirname(os.path.dirname(os.path.abspath(simplecss.__file__)))
 
@@ -93,9 +94,87 @@ class Encodings(unittest.TestCase):
             decoded, encode = decode_page(page)
             self.assertEqual((decoded, encode(decoded)), ("\ufeff<meta charset=koi8-r>é", page))
 
+    def test_what_says_in_which_encoding_a_page_is(self):
+        for page, label, found in (
+            (b"\xff\xfe<\0", "latin1", ("UTF-16LE", "mark")),
+            (b"<meta charset=utf-8>", " Latin1\n", ("windows-1252", "label")),
+            (b"<meta charset=x-sjis>", "none", ("Shift_JIS", "meta")),
+            (b"<?xml encoding='koi8-r'?>", "", ("KOI8-R", "declaration")),
+            (b"", "", ("windows-1252", "default")),
+        ):
+            self.assertEqual(simplecss.page_encoding(page, label), found)
+        with self.assertRaises(TypeError):
+            simplecss.page_encoding("<p>")
+
     def test_trees_of_bytes(self):
         tree = simplecss.Tree.from_html(b"<meta charset=koi8-r><p>\xc1", is_part=True)
         self.assertEqual(tree[1].text, "а")
+
+
+class Places(unittest.TestCase):
+    def cut(self, text, tree):
+        """Returns the tags and the attributes of a tree, as they are in its text."""
+        return [
+            (
+                each.start_tag and text[slice(*each.start_tag)],
+                each.end_tag and text[slice(*each.end_tag)],
+                {name: text[slice(*span)] for name, span in each.attribute_places.items()},
+            )
+            for each in tree
+        ]
+
+    def test_html(self):
+        text = "<html A=1><p class = 'x y'b a=é>é<br/></p>x<html a=2 C=3>"
+        found = self.cut(text, simplecss.Tree.from_html(text))
+        own = {"class": "class = 'x y'", "b": "b", "a": "a=é"}
+        self.assertEqual(found[0], ("<html A=1>", None, {"a": "A=1", "c": "C=3"}))
+        self.assertEqual(found[1:3], [(None, None, {}), (None, None, {})])
+        self.assertEqual(found[3:], [("<p class = 'x y'b a=é>", "</p>", own), ("<br/>", None, {})])
+
+    def test_one_tag_of_several_elements(self):
+        text = "<b x=y>1<p>2</b>3"
+        found = self.cut(text, simplecss.Tree.from_html(text, is_part=True))
+        self.assertEqual([each[0] for each in found], ["<b x=y>", "<p>", "<b x=y>"])
+        self.assertEqual(found[2][2], {"x": "x=y"})
+
+    def test_xml(self):
+        text = "<é:r xmlns:é='u'><a é:x='1' x = \"2\" é:y='3'/></é:r >"
+        found = self.cut(text, simplecss.Tree.from_xml(text))
+        self.assertEqual(found[0], ("<é:r xmlns:é='u'>", "</é:r >", {}))
+        own = {"x": 'x = "2"', "y": "é:y='3'"}
+        self.assertEqual(found[1], ("<a é:x='1' x = \"2\" é:y='3'/>", None, own))
+
+    def test_namespaces(self):
+        tree = simplecss.Tree.from_html(
+            "<svg><a></a><desc><b></b></desc></svg><math></math>", context="p"
+        )
+        html, svg, math = "1999/xhtml", "2000/svg", "1998/Math/MathML"
+        spaces = [f"http://www.w3.org/{each}" for each in (svg, svg, svg, html, math)]
+        self.assertEqual([each.namespace for each in tree], spaces)
+        tree = simplecss.Tree.from_xml("<svg><a xmlns='u'/></svg>")
+        self.assertEqual([each.namespace for each in tree], [None, "u"])
+        self.assertIsNone(simplecss.Tree([simplecss.Item("a")])[0].namespace)
+
+    def test_what_has_no_text_has_no_places(self):
+        element = simplecss.Tree([simplecss.Item("a", {"b": "c"})])[0]
+        found = element.start_tag, element.end_tag, element.attribute_places
+        self.assertEqual(found, (None, None, {}))
+
+    def test_contexts(self):
+        # What a browser makes of such a text as the `innerHTML` of these.
+        text = "<td>a<tr><td>b<p>c"
+        for context, names in (
+            ("td", "p"),
+            ("tr class=x", "td td p"),
+            ("TABLE", "tbody tr td tr td p"),
+            ("template", "td td p"),
+            ("html", "head body p"),
+            ("textarea", ""),
+        ):
+            tree = simplecss.Tree.from_html(text, context=context)
+            self.assertEqual(" ".join(each.name for each in tree), names)
+        with self.assertRaises(TypeError):
+            simplecss.Tree.from_html(text, context="td", is_part=True)
 
 
 # Doctypes, and whether browsers show such a page as old ones did (HTML Standard, "The initial insertion mode").
@@ -418,7 +497,8 @@ class CommandLine(unittest.TestCase):
         for sheet in (simplecss.StyleSheet(css), css + " "):
             with mock.patch.object(library, "call", wraps=library.call) as call:
                 self.assertEqual([simplecss.inline(page, sheet) for page in pages], wanted)
-            self.assertEqual([each.args[0] for each in call.mock_calls].count("simplecss_read"), 1)
+            asked = [each.args[::2] for each in call.mock_calls]
+            self.assertEqual(asked.count(("simplecss_sheet_numbers", STATEMENTS)), 1)
         self.assertIn('style="color: red"', wanted[0])
         for other in (
             simplecss.StyleSheet(),

@@ -59,14 +59,14 @@ class UserAgent(unittest.TestCase):
         the sheets of that origin are compared with them."""
         tree = Tree.from_html("<p align=center>")
         texts = (
-            "* { text-align: a }",
-            "* { text-align: b }",
-            "@layer { * { text-align: c } }",
+            "* { text-align: left }",
+            "* { text-align: right }",
+            "@layer { * { text-align: end } }",
         )
         for origins, value in (
-            (("author",) * 3, "b"),
-            (("user-agent", "user"), "c"),
-            (("user-agent", "user", "user"), "b"),
+            (("author",) * 3, "right"),
+            (("user-agent", "user"), "end"),
+            (("user-agent", "user", "user"), "right"),
             (("user-agent",) * 3, "center"),
         ):
             sheet = StyleSheet(*texts, origins=origins)

@@ -631,7 +631,7 @@ class Trees(unittest.TestCase):
         self.assertEqual(other[0].text, "\n é")
         with self.assertRaises(simplecss.TreeError) as found:
             simplecss.Tree.from_xml("<a>\n</b>")
-        self.assertEqual(str(found.exception), "2:3: mismatched tag")
+        self.assertEqual(str(found.exception), "2:1: an end tag that does not match")
 
     def test_deep(self):
         tree = simplecss.Tree.from_html("<div>" * 20000)

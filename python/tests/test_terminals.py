@@ -7,6 +7,7 @@ import subprocess
 import sys
 import tempfile
 import unittest
+import unittest.mock
 import xml.etree.ElementTree
 from contextlib import redirect_stderr, redirect_stdout
 
@@ -70,6 +71,17 @@ class Terminals(unittest.TestCase):
         # A file or a pipe gets all of it.
         for words in (("minify", css), ("inline", page), ("unused", "--print", css, page)):
             self.assertIn(ESCAPE, self.run_on(io.StringIO(), *words), words)
+
+    def test_colours(self) -> None:
+        css = self.file("a.css", "a { colr: red } b { }")
+        with unittest.mock.patch.dict(os.environ):
+            os.environ.pop("NO_COLOR", None)
+            shown = self.run_on(Terminal(), "lint", css)
+            self.assertIn("\x1b[1;31m", shown)
+            self.assertIn("\x1b[1;33m", shown)
+            self.assertNotIn("\x1b[1", self.run_on(io.StringIO(), "lint", css))
+            os.environ["NO_COLOR"] = "1"
+            self.assertNotIn("\x1b[1;", self.run_on(Terminal(), "lint", css))
 
     def test_what_is_hidden_is_shown(self) -> None:
         """In each line for people, each is U+FFFD; JSON has an escape of each."""

@@ -226,5 +226,29 @@ class Links(unittest.TestCase):
             self.assertEqual("xml-stylesheet" in found, link == "none.css")
 
 
+class Written(unittest.TestCase):
+    """Documents that `inline` has written: for a browser the text of an element has no comment, a newline in a value
+    is a space, and one that is written as a reference is itself."""
+
+    FRONT = '<?xml version="1.0"?><svg xmlns="http://www.w3.org/2000/svg" xmlns:s="http://www.w3.org/2000/svg">'
+
+    def written(self, inner: str, css: str = "") -> str:
+        text = inline(f"{self.FRONT}{inner}</svg>", css, is_xml=True)
+        self.assertTrue(text.startswith(self.FRONT) and text.endswith("</svg>"))
+        return text[len(self.FRONT) : -len("</svg>")]
+
+    def test_comments_are_no_part_of_a_sheet(self):
+        sheet = "g{a:b}<!-- g{c:d} --><![CDATA[g>x{e:f}]]> g:hover{i:'&lt;&amp;'}"
+        self.assertEqual(
+            self.written(f"<s:style>{sheet}</s:style><g/>"),
+            "<s:style>\ng:hover{i:'&lt;&amp;'}\n</s:style><g style=\"a: b\"/>",
+        )
+
+    def test_newlines_in_values(self):
+        self.assertEqual(
+            self.written('<g style="k:l"/>', "g{a:b\nc}"), '<g style="a: b&#10;c; k:l"/>'
+        )
+
+
 if __name__ == "__main__":
     unittest.main()

@@ -4,44 +4,60 @@
 import { readFileSync, writeFileSync } from 'node:fs';
 import { parseArgs } from 'node:util';
 import { LimitError, SelectorError, StyleSheet, Tree } from './index.mjs';
-import { clean, cleanStyle, isClean, isCleanStyle, lint, minify, prettify, version } from './index.mjs';
-import { printable } from './lint.mjs';
+import { clean, cleanStyle, isClean, isCleanStyle, isInherited, lint } from './index.mjs';
+import { minify, placeOf, policy, prettify, shorthands, version } from './index.mjs';
+import { SHELLS } from './completions.mjs';
+import { provide } from './library.mjs';
+import { corrected, kindOf, kindsExplained, printable } from './lint.mjs';
+import second from './second_bytes.mjs';
 import { wordsOf } from './sheet.mjs';
 
 const USAGE = `usage: simplecss select [--attr NAME|--count|--quiet] [--grammar G] [--json] SELECTORS PAGE..
        simplecss match [DEVICE].. [--grammar G] [--json] SHEET.. PAGE..
        simplecss style [DEVICE].. [--grammar G] [--json] SHEET.. PAGE.. NAME
+       simplecss explain --sheet SHEET.. [DEVICE].. [--json] SELECTORS NAME PAGE
        simplecss unused [--json] SHEET.. PAGE..
-       simplecss lint [--grammar G] [--ignore KIND].. [--json] SHEET..
+       simplecss lint [--grammar G] [--select KIND].. [--ignore KIND].. [--fix] [--json] SHEET..
+       simplecss lint --explain KIND
        simplecss minify|prettify [-o FILE] [--json] SHEET
-       simplecss clean --scope SELECTOR|--style [--policy mail|comment] [--report] [-o FILE] [--json] SHEET
-       simplecss clean --scope SELECTOR|--style [--policy mail|comment] --check SHEET..
+       simplecss clean --scope SELECTOR|--style [POLICY].. [--report] [-o FILE] [--json] SHEET
+       simplecss clean --scope SELECTOR|--style [POLICY].. --check SHEET..
+       simplecss completions bash|zsh|fish
        simplecss --help | --version
-A PAGE is a file in HTML and UTF-8 whose name ends in .html or .htm, or the last operand; a SHEET is another one, and - is standard
-input. G is modern or simplecss. A DEVICE is --media screen|print|speech, --width PX, --height PX or --dark. The package for Python,
-whose command has the same name, reads other encodings, XML and the sheets that pages link to, and has inline, too.`;
+A PAGE is a file in UTF-8 whose name ends in .html or .htm, or in .xhtml, .xht, .svg or .xml if it is XML, or the last operand; a
+SHEET is another one, and - is standard input. G is modern or simplecss. A DEVICE is --media screen|print|speech, --width PX, --height
+PX or --dark. A POLICY is --policy mail|comment, --add NAME or --remove NAME of a property, --limit NAME=LIMIT, --prefix PREFIX or
+--at-rule supports|container|layer|keyframes. The
+package for Python, whose command has the same name, reads other encodings and the sheets that pages link to, and has inline, too.`;
 const OPTIONS = {
-  grammar: { type: 'string' }, ignore: { type: 'string', multiple: true }, json: { type: 'boolean' }, output: { type: 'string', short: 'o' },
-  attr: { type: 'string' }, count: { type: 'boolean' }, quiet: { type: 'boolean' },
+  grammar: { type: 'string' }, ignore: { type: 'string', multiple: true }, select: { type: 'string', multiple: true },
+  fix: { type: 'boolean' }, explain: { type: 'string' }, json: { type: 'boolean' }, output: { type: 'string', short: 'o' },
+  sheet: { type: 'string', multiple: true }, attr: { type: 'string' }, count: { type: 'boolean' }, quiet: { type: 'boolean' },
   media: { type: 'string' }, width: { type: 'string' }, height: { type: 'string' }, dark: { type: 'boolean' },
-  scope: { type: 'string' }, style: { type: 'boolean' }, policy: { type: 'string' }, check: { type: 'boolean' }, report: { type: 'boolean' },
+  scope: { type: 'string' }, style: { type: 'boolean' }, policy: { type: 'string' },
+  add: { type: 'string', multiple: true }, remove: { type: 'string', multiple: true }, limit: { type: 'string', multiple: true },
+  prefix: { type: 'string' }, 'at-rule': { type: 'string', multiple: true }, check: { type: 'boolean' }, report: { type: 'boolean' },
   help: { type: 'boolean', short: 'h' }, version: { type: 'boolean' },
 };
 const REFUSED = 1, USAGE_ERROR = 2, UNREADABLE = 4;
 const DEVICE = ['media', 'width', 'height', 'dark'], SHOWN = ['attr', 'count', 'quiet'], TYPES = ['screen', 'print', 'speech'];
+const POLICY = ['scope', 'style', 'policy', 'add', 'remove', 'limit', 'prefix', 'at-rule'];
+const AT_RULES = ['supports', 'container', 'layer', 'keyframes'];
 // What each command does, the options that it takes, and how many operands it has at least and at most.
 const COMMANDS = {
   select: { run: select, taken: ['grammar', 'json', ...SHOWN], least: 2 },
   match: { run: match, taken: ['grammar', 'json', ...DEVICE], least: 2 },
   style: { run: style, taken: ['grammar', 'json', ...DEVICE], least: 3 },
+  explain: { run: explain, taken: ['sheet', 'json', ...DEVICE], least: 3, most: 3 },
   unused: { run: unused, taken: ['json'], least: 2 },
-  lint: { run: each(lintFile), taken: ['grammar', 'ignore', 'json'], least: 1 },
+  lint: { run: each(lintFile), taken: ['grammar', 'ignore', 'select', 'fix', 'json'], least: 1 },
   minify: { run: each(printFile(text => `${minify(text)}\n`)), taken: ['output', 'json'], least: 1, most: 1 },
   prettify: { run: each(printFile(prettify)), taken: ['output', 'json'], least: 1, most: 1 },
-  clean: { run: each(cleanFile), taken: ['scope', 'style', 'policy', 'report', 'output', 'json'], least: 1, most: 1 },
+  clean: { run: each(cleanFile), taken: [...POLICY, 'report', 'output', 'json'], least: 1, most: 1 },
+  completions: { run: completions, taken: [], least: 1, most: 1 },
 };
-// What clean does with --check.
-const CHECK = { run: each(checkFile), taken: ['scope', 'style', 'policy', 'check'], least: 1 };
+// What clean does with --check, and lint with --explain.
+const CHECK = { run: each(checkFile), taken: [...POLICY, 'check'], least: 1 }, EXPLAIN = { run: explainKind, taken: ['explain'], least: 0, most: 0 };
 
 /** Why a command ends, and with which status. */
 class Failure extends Error {
@@ -56,7 +72,8 @@ function words() {
   try {
     const { values, positionals: [name, ...operands] } = parseArgs({ options: OPTIONS, allowPositionals: true });
     if (values.help || values.version) return values;
-    const known = Object.hasOwn(COMMANDS, name) ? COMMANDS[name] : null, command = name === 'clean' && values.check ? CHECK : known;
+    const known = Object.hasOwn(COMMANDS, name) ? COMMANDS[name] : null, isExplained = name === 'lint' && 'explain' in values;
+    const command = name === 'clean' && values.check ? CHECK : isExplained ? EXPLAIN : known;
     const { grammar = 'modern', ignore = [] } = values;
     const isTaken = Object.keys(values).every(each => command?.taken.includes(each)) && SHOWN.filter(each => each in values).length < 2;
     const isRight = isTaken && ['modern', 'simplecss'].includes(grammar) && isDevice(values) && (known !== COMMANDS.clean || isPolicy(values));
@@ -104,10 +121,19 @@ function readSheet(file) {
 
 /** Returns the tree of a page. */
 function readPage(file) {
-  if (isXML(file)) throw new Failure(UNREADABLE, `cannot read ${file}: only pages in HTML are read`);
   const text = read(file);
   room = Math.max(MOST_PRINTED, MOST_FOR_CHARACTER * text.length);
-  return Tree.fromHTML(text);
+  return isXML(file) ? documentOf(file, text) : Tree.fromHTML(text);
+}
+
+/** Returns the tree of a document in XML. */
+function documentOf(file, text) {
+  try {
+    return Tree.fromXML(text);
+  } catch (error) {
+    if (!(error instanceof SyntaxError)) throw error;
+    throw new Failure(REFUSED, `${file}:${error.message}`);
+  }
 }
 
 const isPage = file => /\.html?$/i.test(file), isXML = file => /\.(xhtml|xht|svg|xml)$/i.test(file);
@@ -155,7 +181,7 @@ function print(text) {
 }
 
 /** Returns where an element is, as far as it is known. */
-function placeOf(file, { row, column }) {
+function at(file, { row, column }) {
   return row === null ? printable(file) : `${printable(file)}:${row}:${column}`;
 }
 
@@ -185,7 +211,7 @@ function showFound(file, elements, { attr, count, quiet, json, isOne }) {
   for (const element of quiet || count ? [] : elements) {
     const { index, name, row, column, attributes } = element;
     if (json) print(JSON.stringify({ file, element: index, name, row, column, attributes: Object.fromEntries(attributes) }));
-    else if (attr === undefined) print(`${placeOf(file, element)}: ${printable(shown(element))}`);
+    else if (attr === undefined) print(`${at(file, element)}: ${printable(shown(element))}`);
     else if (attributes.has(attr)) print(attributes.get(attr));
   }
 }
@@ -197,7 +223,7 @@ function match({ operands, grammar, json, ...options }) {
     for (const [element, rules] of sheet.match(readPage(file), { media: deviceOf(options) })) {
       const selectors = rules.map(rule => sheet.rules[rule].selector).join(', '), { index, name } = element;
       if (json) print(JSON.stringify({ element: index, name, rules }));
-      else print(`${placeOf(file, element)}: ${printable(`${shown(element)} ${wordsOf(selectors).join(' ')}`)}`);
+      else print(`${at(file, element)}: ${printable(`${shown(element)} ${wordsOf(selectors).join(' ')}`)}`);
     }
     return 0;
   })));
@@ -210,10 +236,70 @@ function style({ operands, grammar, json, ...options }) {
     for (const [element, winner] of sheet.style(readPage(file), property, { media: deviceOf(options) })) {
       const { index, name } = element, text = winner && `${winner.name}: ${winner.value}${winner.important ? ' !important' : ''}`;
       if (json) print(JSON.stringify({ element: index, name, winner }));
-      else if (winner) print(`${placeOf(file, element)}: ${printable(`${shown(element)} ${text}`)}`);
+      else if (winner) print(`${at(file, element)}: ${printable(`${shown(element)} ${text}`)}`);
     }
     return 0;
   })));
+}
+
+/** Prints the declarations of a property that apply to the elements that selectors match, and by what each loses. */
+function explain({ operands: [selectors, property, file], sheet: files = [], json, ...options }) {
+  if (files.length === 0) throw new Failure(USAGE_ERROR, 'a --sheet is expected');
+  const sheet = new StyleSheet(files.map(readSheet)), page = readPage(file), names = shorthands(property);
+  const wanted = page.select(selectors), found = sheet.explain(page, property, { names, media: deviceOf(options) });
+  const onElement = element => {
+    const { contenders: every, winner } = found.get(element), contenders = every.map(each => ({ ...each, place: placed(each, files) }));
+    return { element, contenders, won: every.indexOf(winner), above: inheritedFrom(element, property, found) };
+  };
+  for (const element of wanted) {
+    if (json) print(JSON.stringify(described(onElement(element), property, onElement)));
+    else linesOf(onElement(element), at(file, element), property, onElement).forEach(print);
+  }
+  return wanted.length > 0 ? 0 : REFUSED;
+}
+
+/** Returns the nearest ancestor from which an element has a property that nothing sets on it, or null. */
+function inheritedFrom(element, property, found) {
+  if (found.get(element).winner !== null || !isInherited(property)) return null;
+  let above = element.parent;
+  while (above && found.get(above).winner === null) above = above.parent;
+  return above ?? null;
+}
+
+/** Returns where a declaration of a sheet is, or null. */
+function placed({ declaration, selector }, files) {
+  const place = selector === null ? null : placeOf(declaration);
+  return place && { ...place, file: at(files[place.source], place) };
+}
+
+/** Returns what explains a property on an element as JSON has it. */
+function described({ element, contenders, won, above }, property, onElement) {
+  const inherited = above && described(onElement(above), property, onElement);
+  return { element: element.index, name: property, contenders, winner: won < 0 ? null : won, inherited };
+}
+
+/** Returns the lines that explain a property on an element. */
+function linesOf({ element, contenders, won, above }, head, property, onElement) {
+  const rows = contenders.map((each, index) => cellsOf(each, index === won));
+  const lines = [`${head}: ${printable(`${shown(element)} ${property}`)}`, ...aligned(rows)];
+  if (above) return [...lines, `  inherited from ${printable(shown(above))}`, ...linesOf(onElement(above), head, property, onElement)];
+  const note = contenders.length > 0 ? 'all are rolled back' : 'nothing sets it';
+  return won < 0 ? [...lines, `  ${note}`] : lines;
+}
+
+/** Returns what is shown of a declaration that applies. */
+function cellsOf({ declaration: { name, value, important }, selector, place, layer, specificity, criterion, isRolledBack }, isWinner) {
+  const text = wordsOf(`${name}: ${value}${important ? ' !important' : ''}`).join(' '), isStyle = selector === null;
+  const state = isWinner ? 'wins' : isRolledBack ? 'rolled back' : 'loses', origin = isStyle ? 'style attribute' : 'author';
+  return [state, text, wordsOf(selector ?? '').join(' '), place?.file ?? '', origin, layer ?? '', specificity?.join() ?? '', criterion ?? ''];
+}
+
+/** Returns lines of cells in columns. Those that are empty in each line are left out. */
+function aligned(rows) {
+  const cells = rows.map(row => row.map(printable));
+  const widths = rows[0]?.map((_, column) => Math.max(...cells.map(each => each[column].length)));
+  const kept = row => row.map((cell, column) => cell.padEnd(widths[column])).filter((_, column) => widths[column] > 0);
+  return cells.map(row => `  ${kept(row).join('  ').trimEnd()}`);
 }
 
 /** Prints the selectors of sheets that match nothing on the pages. */
@@ -227,13 +313,42 @@ function unused({ operands, json }) {
   return 0;
 }
 
-/** Prints the mistakes of a file. Returns the status. */
-function lintFile(file, { grammar, ignore, json }) {
-  const found = lint(readSheet(file), { grammar, ignore });
+/** Prints the mistakes of a file that one of some words begins, if there are words. Returns the status. */
+function lintFile(file, { grammar, ignore, select: words = [''], fix, json }) {
+  const text = fix ? correctFile(file) : readSheet(file), isAsked = ({ kind }) => words.some(each => kind.startsWith(each));
+  const found = lint(text, { grammar, ignore }).filter(isAsked), show = fix && file === '-' ? console.error : console.log;
   for (const { row, column, message, ...more } of found) {
-    console.log(json ? JSON.stringify({ file, row, column, message, ...more }) : `${printable(file)}:${row}:${column}: ${message}`);
+    show(json ? JSON.stringify({ file, row, column, message, ...more }) : `${printable(file)}:${row}:${column}: ${message}`);
   }
   return found.length > 0 ? REFUSED : 0;
+}
+
+/** Corrects a sheet in its file, and returns it. That of standard input is printed. */
+function correctFile(file) {
+  const sheet = readSheet(file), { text, count } = corrected(sheet);
+  if (count > 0) said(0, `${file}: ${count} corrected`);
+  if (file === '-' || text !== sheet) write({ output: file === '-' ? undefined : file }, text);
+  return text;
+}
+
+/** Prints what a kind of mistakes is. Returns the status. */
+function explainKind({ explain: kind }) {
+  for (const [reason, [meaning, severity, wrong, right]] of kindsExplained()) {
+    if (kindOf(reason) !== kind) continue;
+    const lines = wrong ? [['wrong', wrong], ['right', right]] : [];
+    console.log([`${kind} (${severity}): ${meaning}`, ...lines.map(each => `  ${each[0]}:  ${each[1].replaceAll('\\n', '\n          ')}`)].join('\n'));
+    return 0;
+  }
+  throw new Failure(USAGE_ERROR, `unknown kind '${kind}'`);
+}
+
+/** Prints the completion of a shell. Returns the status. */
+function completions({ operands: [shell] }) {
+  if (!Object.hasOwn(SHELLS, shell)) throw new Failure(USAGE_ERROR, 'a shell is bash, zsh or fish');
+  const formsOf = taken => taken.map(each => `--${each}`);
+  const every = Object.entries(COMMANDS).map(([name, { taken }]) => [name, formsOf(taken)]);
+  console.log(SHELLS[shell](every));
+  return 0;
 }
 
 /** Writes a text, or the JSON of more, to a file or to standard output. Returns the status. */
@@ -265,20 +380,34 @@ function asked(file, ask) {
   }
 }
 
+/** Returns the policy that options name, with what they change of it. */
+function policyOf({ policy: name = 'mail', add = [], remove = [], limit = [], prefix = '', 'at-rule': atRules = [] }) {
+  const other = atRules.find(each => !AT_RULES.includes(each));
+  if (other !== undefined) throw new Failure(USAGE_ERROR, `--at-rule is one of ${AT_RULES.join(', ')}, not '${other}'`);
+  const known = policy(name), gone = new Set(remove.map(each => each.toLowerCase()));
+  const limits = limit.map(each => each.split('=')).map(([property, ...rest]) => [property.toLowerCase(), rest.join('=')]);
+  const properties = [...known.properties, ...add].filter(each => !gone.has(each.toLowerCase()));
+  const media = [...known.media, ...atRules.map(each => `@${each}`)];
+  return { ...known, properties, media, prefix, limits: { ...known.limits, ...Object.fromEntries(limits) } };
+}
+
 /** Prints what a policy allows of a file. Returns the status. */
-function cleanFile(file, { scope, style, policy = 'mail', report, ...options }) {
-  const { text: css, dropped } = asked(file, text => style ? cleanStyle(text, { policy }) : clean(text, { scope, policy }));
+function cleanFile(file, options) {
+  const { scope, style, report } = options, given = policyOf(options);
+  const { text: css, dropped } = asked(file, text => style ? cleanStyle(text, { policy: given }) : clean(text, { scope, policy: given }));
   const status = write(options, css, { file, css, dropped });
   for (const { row, column, reason, text } of report ? dropped : []) said(0, `${file}:${row}:${column}: '${text}' is dropped: ${reason}`);
   return status;
 }
 
 /** Returns the status that says whether a file is clean. */
-function checkFile(file, { scope, style, policy = 'mail' }) {
-  return asked(file, text => style ? isCleanStyle(text, { policy }) : isClean(text, { scope, policy })) ? 0 : REFUSED;
+function checkFile(file, options) {
+  const { scope, style } = options, given = policyOf(options);
+  return asked(file, text => style ? isCleanStyle(text, { policy: given }) : isClean(text, { scope, policy: given })) ? 0 : REFUSED;
 }
 
 function run(given) {
+  provide({ second });
   if (!given) {
     console.error(USAGE);
     return USAGE_ERROR;

@@ -1,5 +1,5 @@
 // The comments of a style sheet, put back into its printed text.
-import { call } from './library.mjs';
+import { CONTENTS, sheetNumbers } from './library.mjs';
 import { Source, lower } from './reading.mjs';
 import { tokens } from './tokens.mjs';
 
@@ -79,7 +79,7 @@ function placesIn(own, others) {
 /** Returns of each token, and of the end, the number of the one that is before its item, or -1. */
 function endsIn(text, those) {
   const source = new Source(text), ends = [];
-  const numbers = call('contents', [source.data], { room: 1024 + 2 * source.data.length, isNumbers: true }), spans = [];
+  const numbers = sheetNumbers(source.data, CONTENTS, { room: 1024 + 2 * source.data.length }), spans = [];
   for (let row = 0; row < numbers.length; row += OF_CONTENT) {
     const [kind, start, length] = numbers.slice(row, row + 3);
     if (!EDGES.has(kind)) spans.push([source.index(start), source.index(start + length)]);

@@ -6,7 +6,10 @@ type Later<F extends (...words: never) => unknown> = (...words: Parameters<F>) =
 export * from './index.js';
 export const clean: Later<typeof all.clean>;
 export const cleanStyle: Later<typeof all.cleanStyle>;
+export const edit: Later<typeof all.edit>;
+export const fixed: Later<typeof all.fixed>;
 export const hasValidReferences: Later<typeof all.hasValidReferences>;
+export const inline: Later<typeof all.inline>;
 export const isClean: Later<typeof all.isClean>;
 export const isCleanStyle: Later<typeof all.isCleanStyle>;
 export const isInherited: Later<typeof all.isInherited>;

@@ -12,6 +12,9 @@ function later(name) {
 
 export const clean = /* @__PURE__ */ later('clean');
 export const cleanStyle = /* @__PURE__ */ later('cleanStyle');
+export const edit = /* @__PURE__ */ later('edit');
+export const fixed = /* @__PURE__ */ later('fixed');
+export const inline = /* @__PURE__ */ later('inline');
 export const hasValidReferences = /* @__PURE__ */ later('hasValidReferences');
 export const isClean = /* @__PURE__ */ later('isClean');
 export const isCleanStyle = /* @__PURE__ */ later('isCleanStyle');

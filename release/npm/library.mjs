@@ -29,6 +29,18 @@ export class TreeError extends Error {
   }
 }
 
+/** An edit of a style sheet, of this index, would be read as something else. */
+export class EditError extends Error {
+  name = 'EditError';
+
+  constructor({ text, start }, index) {
+    super(`at ${start}: this would be read as something else: ${JSON.stringify(text)}`);
+    this.index = index;
+    this.text = text;
+    this.start = start;
+  }
+}
+
 /** Throws a `TypeError` for an option that is none of these. */
 export function expectOptions(options, names) {
   if (options === undefined || options === null) return;
@@ -239,6 +251,24 @@ export function call(name, words, options = {}) {
   });
 }
 
+/**
+ * What is asked by the grammar of the Rust crate: the printed sheet of texts, its rules, what is skipped of a text, which rules match
+ * each element, what wins on each, and which elements a list of selectors matches.
+ */
+export const PORT_SHEET = 0n;
+export const PORT_RULES = 1n;
+export const PORT_SKIPPED = 2n;
+export const PORT_MATCHES = 3n;
+export const PORT_STYLES = 4n;
+export const PORT_SELECTED = 5n;
+/** A tree without elements: no array has an item. */
+export const NO_TREE = { arrays: [[], [], [], []].map(sizes).concat(0n, sizes([])) };
+
+/** Asks the library by the grammar of the Rust crate, of texts, which are joined, and of the elements of a tree. */
+export function askPort(asked, texts, limit, tree, options) {
+  return call('port', [...texts, limit, asked, tree ?? NO_TREE], { most: NO_LIMIT, hasTree: true, ...options });
+}
+
 /** Frees what was taken of the module's memory. What the library keeps, stays. */
 function reset() {
   ready();
@@ -269,71 +299,131 @@ function answered(name, { room = 65536, most, hasTree = false, isNumbers = false
 }
 
 /**
- * Makes the list of selectors that a text is, asks it, and lets it go. Returns what `ask` does, which is given a function that
- * asks the list a question, or null where the text is no list. Nothing else may be called meanwhile: a call frees its handle.
+ * Makes what the library keeps of words, asks it, and lets it go. Returns what `ask` does, which is given a function that asks a
+ * question, or null where the words are refused. Nothing else may be called meanwhile: a call frees its handle.
  */
-export function askList(text, grammar, ask) {
+function whileKept(kind, words, ask) {
   reset();
-  const list = take(sizeLength());
-  new Uint8Array(library.memory.buffer, Number(list), sizeLength()).fill(0);
-  const status = invoke('simplecss_list_new', [...placed(text), grammar, list]);
+  const handle = take(sizeLength());
+  new Uint8Array(library.memory.buffer, Number(handle), sizeLength()).fill(0);
+  const status = invoke(`simplecss_${kind}_new`, [...words.flatMap(placed), handle]);
   if (status === REFUSED) return null;
-  if (status !== DONE) throw failure('list_new', status);
+  if (status !== DONE) throw failure(`${kind}_new`, status);
   try {
-    return ask((name, options) => answered(`list_${name}`, options, () => [list]));
+    return ask((name, options, more = []) => answered(`${kind}_${name}`, options, () => [handle, ...more]));
   } finally {
-    invoke('simplecss_list_free', [list]);
+    invoke(`simplecss_${kind}_free`, [handle]);
   }
 }
 
-/** Lets the page go that a module keeps at a place, unless another one was started since. */
-function freePage({ module, at }) {
-  if (module !== library) return;
-  reset();
-  invoke('simplecss_page_free', placed({ arrays: [at] }));
+/** Makes the list of selectors that a text is, asks it as `ask` does, and lets it go. Returns null where the text is no list. */
+export function askList(text, grammar, ask) {
+  return whileKept('list', [text, grammar], ask);
 }
 
-// The pages that nobody can ask any more are let go.
-const unreachable = new FinalizationRegistry(freePage);
+/** What a style sheet is asked: in numbers its statements, and what is in its style rules; and as a text its imports. */
+export const STATEMENTS = 0n;
+export const CONTENTS = 1n;
+export const IMPORTS = 2n;
 
-/**
- * A tree that is asked which of its elements selectors match, whose names compare as a grammar says. The library has a copy of it
- * until `close`, or until nobody can ask it any more.
- */
-export class KeptPage {
+/** Returns the numbers of what a style sheet is asked. */
+export function sheetNumbers(data, asked, options = {}) {
+  const all = { most: NO_LIMIT, ...options, isNumbers: true };
+  return whileKept('sheet', [data], ask => ask('numbers', all, [asked]));
+}
+
+/** Returns the text of what a style sheet is asked: its imports, or the sheet in a layout. */
+export function sheetText(data, asked, options = {}) {
+  return whileKept('sheet', [data], ask => ask('text', options, [asked]));
+}
+
+/** Lets go what a module keeps at a place, unless another one was started since. */
+function freeKept({ module, at, kind }) {
+  if (module !== library) return;
+  reset();
+  invoke(`simplecss_${kind}_free`, placed({ arrays: [at] }));
+}
+
+// What nobody can ask any more is let go.
+const unreachable = new FinalizationRegistry(freeKept);
+
+/** What the library keeps of what is passed, until `close`, or until nobody can ask it any more. */
+class Kept {
   #kept;
 
-  constructor(tree, grammar) {
+  constructor(kind, words) {
     reset();
-    const [page] = placed(tree), [handle] = placed({ arrays: [0n] }), end = take(24);
-    const status = invoke('simplecss_page_new', [page, grammar, handle, end + 8n]);
+    const given = words.flatMap(placed), [handle] = placed({ arrays: [0n] }), end = take(24);
+    const status = invoke(`simplecss_${kind}_new`, [...given, handle, end + 8n]);
     const { buffer } = library.memory;
-    if (status !== DONE) throw failure('page_new', status, new DataView(buffer, Number(end), 24));
+    if (status !== DONE) throw failure(`${kind}_new`, status, new DataView(buffer, Number(end), 24));
     const at = BigInt(sizeAt(new DataView(buffer, Number(handle), sizeLength()), 0));
-    this.#kept = { module: library, at };
+    this.#kept = { module: library, at, kind };
     unreachable.register(this, this.#kept, this);
   }
 
-  /** Whether another module was started since, which has no such page. */
+  /** Whether another module was started since, which has nothing of it. */
   get isLeft() { return this.#kept.module !== library; }
+
+  /** Returns the numbers that a question has for an answer. */
+  ask(name, words, options) {
+    const { at, kind } = this.#kept;
+    return call(`${kind}_${name}`, [{ arrays: [at] }, ...words], { isNumbers: true, ...options });
+  }
+
+  /** Lets it go. */
+  close() {
+    unreachable.unregister(this);
+    freeKept(this.#kept);
+    this.#kept.at = 0n;
+  }
+}
+
+/** A tree that is asked which of its elements selectors match, whose names compare as a grammar says. The library has a copy. */
+export class KeptPage extends Kept {
+  constructor(tree, grammar) {
+    super('page', [tree, grammar]);
+  }
 
   /**
    * Returns the indices of the elements from one up to another that a list of selectors matches, or null where it is refused.
    * `:scope` matches the element at an index, or with -1 the root.
    */
   select(selectors, scope, start, end) {
-    const words = [{ arrays: [this.#kept.at] }, selectors, ...[scope + 1, start, end].map(BigInt)];
+    const words = [selectors, ...[scope + 1, start, end].map(BigInt)];
     // Each element is written once at most.
-    const numbers = call('page_select', words, { room: end - start, most: NO_LIMIT, isNumbers: true });
+    const numbers = this.ask('select', words, { room: end - start, most: NO_LIMIT });
     return numbers && numbers.map(number => number - 1);
   }
+}
 
-  /** Lets the page go. */
-  close() {
-    unreachable.unregister(this);
-    freePage(this.#kept);
-    this.#kept.at = 0n;
+/**
+ * What a query is asked: what wins on each element, also of some properties, which rules match it, which declarations of a property
+ * apply to it, and the rules.
+ */
+export const WINNERS = 0n;
+export const WINNERS_NAMED = 1n;
+export const MATCHES = 2n;
+export const EXPLAINED = 3n;
+export const RULES = 4n;
+
+/** A tree with style sheets and elements' own declarations, of which the library has copies. */
+export class KeptQuery extends Kept {
+  constructor(tree, grammar, sheets, limit, own) {
+    super('query', [tree, grammar, sheets, limit, own]);
   }
+
+  /** Returns the numbers of what is asked of the elements from one index up to another, of the property that has these names. */
+  numbers(asked, names, start, end, options) {
+    const words = { arrays: [...joined(names), sizes(names.length > 0 ? [names.length] : [])] };
+    return this.ask('numbers', [asked, words, BigInt(start), BigInt(end)], options);
+  }
+
+  /** Returns the numbers of the rules. */
+  rules(options) { return this.numbers(RULES, [], 0, 0, { ...options, most: NO_LIMIT }); }
+
+  /** Returns the bytes of the texts of the rules' selectors, one after another. */
+  texts(options) { return this.ask('text', [], { ...options, isNumbers: false, isBytes: true }); }
 }
 
 /**
@@ -356,7 +446,16 @@ export function readPage(text, { space = 0n, context = '', flags = 0n } = {}) {
       return { numbers, strings: new Uint8Array(buffer, Number(strings), length).slice() };
     }
     if (status === TOO_MANY) throw new LimitError('elements are nested in a way that takes time or elements out of proportion');
+    if (status === REFUSED) throw new NotWellFormed(length, room);
     if (status !== TOO_SMALL) throw failure('html', status, view);
+  }
+}
+
+/** A text is not an XML document: the number of the reason, and the offset of what is wrong. */
+export class NotWellFormed extends Error {
+  constructor(reason, offset) {
+    super('not well-formed');
+    Object.assign(this, { reason, offset });
   }
 }
 

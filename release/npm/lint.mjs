@@ -1,7 +1,8 @@
 // Mistakes in style sheets.
-import { call, encode, expectOptions, expectText } from './library.mjs';
+import { expectOptions } from './library.mjs';
 import { Source } from './reading.mjs';
 import { skippedByPort, wordsOf } from './sheet.mjs';
+import { linesOf } from './taken.mjs';
 import { tokens } from './tokens.mjs';
 import { PORT, grammarOf } from './tree.mjs';
 
@@ -10,8 +11,10 @@ import { PORT, grammarOf } from './tree.mjs';
 const IGNORE = 'simplecss-ignore';
 // How many characters of a text a message has.
 const SHOWN = 60;
-// What the library is asked for: the mistakes of a text, and whether properties take values.
-const MISTAKES = 0n, VALUES = 8n;
+// What the library is asked for: the mistakes of a text, and what the kinds are.
+const MISTAKES = 0n, KINDS = 4n;
+// How often a sheet is corrected: what is right then may show another mistake.
+const MOST_ROUNDS = 8;
 
 // The control characters; what changes the order of the characters around it, ends a line, or cannot be seen; and halves of
 // characters.
@@ -23,36 +26,32 @@ export function printable(text) {
   return text.replace(HIDDEN, '\ufffd');
 }
 
-/** Returns the lines that the library writes. */
-function linesOf(data, asked) {
-  return call('lint', [data, asked], { room: 1024 + data.length }).split('\n').slice(0, -1);
+let kinds;
+
+/** Returns what the kinds are, by their reasons: what each means, how bad it is, a sheet with it alone and one without it. */
+export function kindsExplained() {
+  kinds ??= new Map(linesOf(new Uint8Array(), KINDS).map(([reason, ...fields]) => [reason, fields]));
+  return kinds;
 }
 
-/**
- * Returns whether a property takes a value, which has no `!important`: true if the standards and browsers take it, and false if none
- * of them does. What is not known is null.
- */
-export function takesValue(name, value) {
-  expectText(name);
-  expectText(value);
-  if (name.includes(':') || `${name}${value}`.includes('\n')) return null;
-  const [found] = linesOf(encode(`${name}:${value}`), VALUES);
-  return found === 'unknown' ? null : found === 'valid';
+/** Returns the reason as one word. */
+export function kindOf(reason) {
+  return reason.replaceAll("'", '').replaceAll(' ', '-');
 }
 
-/** Returns a text, and why something of it is reported, and where. */
+/** Returns a text, and why something of it is reported, where, and what corrects it. */
 function reported(text) {
   const source = new Source(text);
-  const problems = linesOf(source.data, MISTAKES).map(line => {
-    const [reason, start, end, hint] = line.split('\t');
-    return { reason, span: [Number(start), Number(end)], hint: hint || null };
+  const problems = linesOf(source.data, MISTAKES).map(([reason, start, end, hint, from, to, right]) => {
+    const fix = from === undefined ? null : { start: source.index(Number(from)), end: source.index(Number(to)), text: right };
+    return { reason, span: [Number(start), Number(end)], hint: hint || null, fix };
   });
   return { source, problems };
 }
 
 function reportedByPort(text) {
   const { source, faults } = skippedByPort(text);
-  return { source, problems: faults.map(({ reason, span }) => ({ reason, span, hint: null })) };
+  return { source, problems: faults.map(({ reason, span }) => ({ reason, span, hint: null, fix: null })) };
 }
 
 /** Returns the beginnings of the kinds that comments turn off, by the rows of the comments in a sheet. */
@@ -86,12 +85,12 @@ function isNamed(kind, words) {
 }
 
 /** Returns a finding of a problem. */
-function findingOf(source, { reason, span, hint }) {
+function findingOf(source, { reason, span, hint, fix }) {
   const end = source.position(span[1]), text = source.at(span), letters = [...printable(wordsOf(text).join(' '))];
   const shown = letters.length <= SHOWN ? letters.join('') : `${letters.slice(0, SHOWN).join('')}..`;
   return {
     ...source.position(span[0]), reason, text, endRow: end.row, endColumn: end.column, hint,
-    kind: reason.replaceAll("'", '').replaceAll(' ', '-'),
+    kind: kindOf(reason), severity: kindsExplained().get(reason)?.[1] ?? 'warning', fix,
     message: `'${shown}': ${reason}${hint ? ` (did you mean '${hint}'?)` : ''}`,
   };
 }
@@ -105,4 +104,28 @@ export function lint(text, options) {
     .map(each => findingOf(source, each))
     .filter(({ kind, row }) => !isNamed(kind, everywhere) && !isNamed(kind, rows.get(row) ?? everywhere))
     .sort((a, b) => a.row - b.row || a.column - b.column);
+}
+
+/** Returns a style sheet with what has one right answer corrected, and how many mistakes are. */
+export function corrected(text) {
+  let result = text, count = 0;
+  for (let round = 0; round < MOST_ROUNDS; round += 1) {
+    const fixes = lint(result).map(each => each.fix).filter(each => each !== null).sort((a, b) => a.start - b.start || a.end - b.end);
+    const parts = [];
+    let done = 0;
+    for (const { start, end, text: right } of fixes) {
+      if (start < done) continue;
+      parts.push(result.slice(done, start), right);
+      done = end;
+      count += 1;
+    }
+    if (parts.length === 0) break;
+    result = parts.join('') + result.slice(done);
+  }
+  return { text: result, count };
+}
+
+/** Returns a style sheet with what has one right answer corrected, as the `fix` of a finding says. */
+export function fixed(text) {
+  return corrected(text).text;
 }

@@ -1,5 +1,5 @@
 // The rules in style rules, as the library finds them.
-import { call } from './library.mjs';
+import { CONTENTS, sheetNumbers } from './library.mjs';
 import { conditionAt, conditionsOf, declarationAt, isSupported } from './reading.mjs';
 import { partsOfList } from './tokens.mjs';
 
@@ -15,11 +15,14 @@ const OF_CONTENT = 10, DECLARES = 0, BEGINS_STYLE = 3, BEGINS_GROUP = 12, EDGES 
 /** Whether an item of a block is a rule. */
 const isRule = ({ kind, rule, reason }) => kind === 'at-rule' ? rule.block !== null : reason === NESTED;
 
-/** Returns where a block begins or ends by its row of numbers: the offset after the brace, and before it of one that ends. */
+/**
+ * Returns where a block begins or ends by its row of numbers: the offset after the brace, and before it of one that ends; and
+ * where its rule begins.
+ */
 function edgeOf(source, [kind, start, , , name, nameLength, at, length, contents]) {
   if (kind === ENDS) return { kind, offset: start };
-  if (kind === BEGINS_STYLE) return { kind, offset: at, prelude: source.at([start, name + nameLength]) };
-  return { kind, offset: contents, condition: conditionAt(source, [name, name + nameLength], [at, at + length]) };
+  if (kind === BEGINS_STYLE) return { kind, start, offset: at, prelude: source.at([start, name + nameLength]) };
+  return { kind, start, offset: contents, condition: conditionAt(source, [name, name + nameLength], [at, at + length]) };
 }
 
 /**
@@ -27,34 +30,34 @@ function edgeOf(source, [kind, start, , , name, nameLength, at, length, contents
  * rule.
  */
 export function* edgesOf(source) {
-  const numbers = call('contents', [source.data], { room: 1024 + 2 * source.data.length, isNumbers: true });
+  const numbers = sheetNumbers(source.data, CONTENTS, { room: 1024 + 2 * source.data.length });
   for (let at = 0; at < numbers.length; at += OF_CONTENT) {
     if (EDGES.has(numbers[at])) yield edgeOf(source, numbers.slice(at, at + OF_CONTENT));
   }
 }
 
-/** Returns edges, and for each at which a block begins where its contents end. */
+/** Returns edges, and for each at which a block begins where its contents end, and its rule. */
 function withEnds(edges, size) {
-  const begun = [], found = edges.map(edge => ({ ...edge, end: size }));
+  const begun = [], found = edges.map(edge => ({ ...edge, end: size, past: size }));
   for (const edge of found) {
-    if (edge.kind === ENDS) begun.pop().end = edge.offset;
+    if (edge.kind === ENDS) Object.assign(begun.pop(), { end: edge.offset, past: edge.offset + 1 });
     else begun.push(edge);
   }
   return found;
 }
 
 /** Returns the rule that begins in another one: its block, what is before that of its style rule, and in how many rules it is. */
-function openIn({ block, head, depth }, { kind, offset, end, prelude, condition }) {
+function openIn({ block, head, depth }, { kind, start, offset, end, past, prelude, condition }) {
   if (block === null || depth === DEEPEST) return { block: null, head, depth };
-  const { parents, conditions } = block, span = [offset, end];
+  const { parents, conditions } = block, span = [offset, end], rule = [start, past];
   return kind === BEGINS_STYLE
-    ? { block: { span, parents: [...parents, head], conditions, head: prelude }, head: prelude, depth: depth + 1 }
-    : { block: { span, parents, conditions: [...conditions, condition], head }, head, depth: depth + 1 };
+    ? { block: { span, rule, parents: [...parents, head], conditions, head: prelude }, head: prelude, depth: depth + 1 }
+    : { block: { span, rule, parents, conditions: [...conditions, condition], head }, head, depth: depth + 1 };
 }
 
 /** Returns the block of a style rule that is in no other. */
 function blockOf(source, { head, span, levels }) {
-  return { span: [head[1], span[1]], parents: [], conditions: conditionsOf(levels), head: source.at(head) };
+  return { span: [head[1], span[1]], rule: span, parents: [], conditions: conditionsOf(levels), head: source.at(head) };
 }
 
 /** Yields the blocks of these rules, which are in order, and of those in them. */
@@ -76,7 +79,7 @@ function* blocksIn(source, rules) {
 
 /**
  * Returns the blocks of the style rules of a sheet that have rules in them, and of these rules, each after the one that it is in:
- * where they are, what is before the blocks of the style rules around them, the group rules, and what is before the block of
+ * where they and their rules are, what is before the blocks of the style rules around them, the group rules, and what is before the block of
  * the style rule that they are in.
  */
 export function blocksOf({ source, statements }) {
@@ -93,7 +96,7 @@ export function everyBlock({ source, statements, blocks }) {
 
 /** Returns the declarations of each block that has some, by the offset after its brace. */
 function declaredIn(source) {
-  const numbers = call('contents', [source.data], { room: 1024 + 2 * source.data.length, isNumbers: true });
+  const numbers = sheetNumbers(source.data, CONTENTS, { room: 1024 + 2 * source.data.length });
   const begun = [], found = new Map();
   for (let at = 0; at < numbers.length; at += OF_CONTENT) {
     const row = numbers.slice(at, at + OF_CONTENT), [kind] = row;

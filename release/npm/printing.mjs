@@ -1,6 +1,6 @@
 // Printed style sheets: with no more bytes than are needed, or with a line for each declaration.
 import { withComments } from './comments.mjs';
-import { call, encode } from './library.mjs';
+import { encode, sheetText } from './library.mjs';
 
 // The layouts, as the library numbers them, and how the comments begin that are kept: any, and those of licences.
 const SHORT = 0n, LINES = 1n, ANY = '/*', IMPORTANT = '/*!';
@@ -28,5 +28,5 @@ function printed(text, layout, front) {
 /** Returns a sheet as the library prints it, without comments. */
 function bareOf(text, layout) {
   const data = encode(text);
-  return call('print', [data, layout], { room: 256 + 2 * data.length });
+  return sheetText(data, layout, { room: 256 + 2 * data.length });
 }

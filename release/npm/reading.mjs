@@ -1,5 +1,5 @@
 // What the library reads of style sheets and style attributes, by the modern grammar.
-import { call, decode, encode, mostNumbers, rowsOf } from './library.mjs';
+import { STATEMENTS, call, decode, encode, mostNumbers, rowsOf, sheetNumbers } from './library.mjs';
 
 // How many bytes are counted at once.
 const BLOCK = 256;
@@ -20,7 +20,9 @@ export class Source {
   #counts;
   #lines;
 
-  constructor(text) {
+  /** Takes a text, and its number among those of its sheet. */
+  constructor(text, number = 0) {
+    this.number = number;
     this.data = encode(text);
     this.isAscii = this.data.length === text.length;
     this.text = this.isAscii ? text : decode(this.data);
@@ -80,7 +82,7 @@ export class Source {
 }
 
 /** Returns the index of the last item that has at most a number. The first one has. */
-function lastAtMost(items, number, numberOf) {
+export function lastAtMost(items, number, numberOf) {
   let low = 0, high = items.length - 1;
   while (low < high) {
     const middle = Math.ceil((low + high) / 2);
@@ -111,26 +113,38 @@ export function headOf({ name, prelude }) {
 /** Returns the group rule whose name, which may have escapes, and prelude are at these places. */
 export function conditionAt(source, nameSpan, preludeSpan) {
   const name = source.at(nameSpan);
-  return { name: lower(name.includes('\\') ? call('decode', [encode(name), 0n]) : name), prelude: source.at(preludeSpan) };
+  return { name: lower(name.includes('\\') ? call('spell', [encode(name), 0n]) : name), prelude: source.at(preludeSpan) };
+}
+
+// The texts of rules, declarations and at-rules, and where they are in them.
+const places = new WeakMap();
+
+/** Notes where something is in a text, and returns it. */
+export function placed(item, source, span) {
+  places.set(item, { source, span });
+  return item;
+}
+
+/** Returns where a rule, a declaration or an at-rule is in the texts of its sheet, or null where that is not known. */
+export function placeOf(item) {
+  const found = places.get(item);
+  if (!found) return null;
+  const { source, span } = found, [start, end] = span.map(at => source.index(at));
+  return { source: source.number, ...source.position(span[0]), start, end };
 }
 
 /** Makes statements and items of what the library writes of a text. */
 class Reader {
   #levels = new Map();
 
-  constructor(text) {
-    this.source = new Source(text);
-  }
-
-  /** Returns the numbers that a call writes of the text. */
-  numbers(name, most) {
-    const data = this.source.data;
-    return call(name, [data], { room: 1024 + data.length, most, isNumbers: true });
+  constructor(text, number) {
+    this.source = new Source(text, number);
   }
 
   /** Returns what the text has as a style attribute. */
   blockItems() {
-    return this.#items(this.numbers('declarations'), []);
+    const { data } = this.source;
+    return this.#items(call('declarations', [data], { room: 1024 + data.length, isNumbers: true }), []);
   }
 
   /** Returns the statements of the text, and the group rules that have none, which the library does not write. */
@@ -151,13 +165,16 @@ class Reader {
   #addGroups(found, start, end) {
     if (!this.source.data.subarray(start, end).includes(64)) return;
     for (const item of readBlock(this.source.at([start, end])).items) {
-      if (item.kind === 'at-rule') found.push({ ...item, span: moved(item.span, start), inner: moved(item.inner, start) });
+      if (item.kind !== 'at-rule') continue;
+      const span = moved(item.span, start), rule = placed(item.rule, this.source, span);
+      found.push({ ...item, rule, span, inner: moved(item.inner, start) });
     }
   }
 
   /** Yields the statements that the library writes. */
   * #written() {
-    const numbers = this.numbers('read', mostNumbers(this.source.data.length));
+    const { data } = this.source, options = { room: 1024 + data.length, most: mostNumbers(data.length) };
+    const numbers = sheetNumbers(data, STATEMENTS, options);
     for (let at = 0; at < numbers.length;) {
       const row = numbers.slice(at, at + OF_STATEMENT);
       const atSelectors = at + OF_STATEMENT + row[10], atItems = atSelectors + row[11];
@@ -214,10 +231,7 @@ class Reader {
   #declaration(row) {
     const [, start, length, isClosed] = row;
     return {
-      kind: 'declaration',
-      declaration: declarationAt(this.source, row),
-      isClosed: isClosed === 1,
-      span: [start, start + length],
+      kind: 'declaration', declaration: declarationAt(this.source, row), isClosed: isClosed === 1, span: [start, start + length],
     };
   }
 
@@ -237,12 +251,12 @@ class Reader {
     const end = start + length, inner = kind === AT_RULE ? [block, block + blockLength] : [end, end];
     return {
       kind: 'at-rule',
-      rule: {
+      rule: placed({
         name: lower(this.source.at([name, name + nameLength])),
         prelude: this.source.at([prelude, prelude + preludeLength]),
         block: kind === AT_RULE ? this.source.at(inner) : null,
         conditions: conditionsOf(levels),
-      },
+      }, this.source, [start, end]),
       levels,
       isClosed: isClosed === 1,
       span: [start, end],
@@ -259,10 +273,10 @@ function isBlank(byte) {
 /** Returns where a text is whose offsets are so much less. */
 const moved = ([start, end], by) => [start + by, end + by];
 
-/** Returns the declaration whose name and value are between these offsets. */
-export function declared(source, nameSpan, valueSpan, important, isClosed) {
-  const name = source.at(nameSpan), text = source.at(valueSpan);
-  return { name: name.startsWith('--') ? name : lower(name), value: isClosed ? text : closed(text), important };
+/** Returns the declaration that is in a span, with its name and value between these offsets. */
+export function declared(source, span, nameSpan, valueSpan, important, isClosed) {
+  const name = source.at(nameSpan), text = source.at(valueSpan), value = isClosed ? text : closed(text);
+  return placed({ name: name.startsWith('--') ? name : lower(name), value, important }, source, span);
 }
 
 /** Returns a value with what the end of the text closes: a string or a comment, and brackets. */
@@ -283,9 +297,9 @@ function declarationsIn(items) {
   return items.filter(item => item.kind === 'declaration').map(item => item.declaration);
 }
 
-/** Returns the statements of a style sheet, also those in its group rules. */
-export function readSheet(text) {
-  const reader = new Reader(text);
+/** Returns the statements of a style sheet, the text of this number, also those in its group rules. */
+export function readSheet(text, number = 0) {
+  const reader = new Reader(text, number);
   return { source: reader.source, statements: reader.statements() };
 }
 
@@ -297,8 +311,9 @@ export function isSupported(text) {
 }
 
 /** Returns the declaration of a row of numbers that the library writes of an item. */
-export function declarationAt(source, [, , , isClosed, name, nameLength, value, valueLength, isImportant]) {
-  return declared(source, [name, name + nameLength], [value, value + valueLength], isImportant === 1, isClosed === 1);
+export function declarationAt(source, [, start, length, isClosed, name, nameLength, value, valueLength, isImportant]) {
+  const spans = [[start, start + length], [name, name + nameLength], [value, value + valueLength]];
+  return declared(source, ...spans, isImportant === 1, isClosed === 1);
 }
 
 /** Returns what a style attribute or the block of a rule has. */

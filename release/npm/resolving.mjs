@@ -4,16 +4,18 @@ import { lower } from './reading.mjs';
 
 // How many bytes a value may have whose references are replaced.
 const LONGEST = 2 ** 20;
+// What is asked of a property, as the library numbers it.
+const LONGHANDS = 0n, SHORTHANDS = 1n, INHERITED = 3n;
 
 /** Returns the longhands that a shorthand sets. A longhand has none. */
 export function longhands(name) {
-  const found = call('longhands', [encode(lower(name))]);
+  const found = call('property', [encode(lower(name)), LONGHANDS]);
   return found ? found.split(' ') : [];
 }
 
 /** Returns the shorthands that set a longhand. */
 export function shorthands(name) {
-  return call('shorthands', [encode(lower(name))]).split('\n').slice(0, -1);
+  return call('property', [encode(lower(name)), SHORTHANDS]).split('\n').slice(0, -1);
 }
 
 // What each shorthand that was asked about sets.
@@ -34,7 +36,7 @@ export function partsOf(name) {
 
 /** Whether parents hand down a property. */
 export function isInherited(name) {
-  return call('inherited', [encode(name.startsWith('--') ? name : lower(name))]) === 'true';
+  return call('property', [encode(name.startsWith('--') ? name : lower(name)), INHERITED]) === 'true';
 }
 
 /** Whether each `var()` of a value has the name of a custom property, and nothing else but a fallback. */

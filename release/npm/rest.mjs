@@ -13,6 +13,9 @@ function withSecond(call) {
 
 export const clean = /* @__PURE__ */ withSecond(calls.clean);
 export const cleanStyle = /* @__PURE__ */ withSecond(calls.cleanStyle);
+export const edit = /* @__PURE__ */ withSecond(calls.edit);
+export const fixed = /* @__PURE__ */ withSecond(calls.fixed);
+export const inline = /* @__PURE__ */ withSecond(calls.inline);
 export const hasValidReferences = /* @__PURE__ */ withSecond(calls.hasValidReferences);
 export const isClean = /* @__PURE__ */ withSecond(calls.isClean);
 export const isCleanStyle = /* @__PURE__ */ withSecond(calls.isCleanStyle);

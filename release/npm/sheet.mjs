@@ -1,9 +1,11 @@
 // Selectors and style sheets: which rules match the elements of a tree, and which declarations win on them.
 import { deviceOf, holds } from './device.mjs';
-import { Lines, LimitError, askList, call, decode, encode, expectOptions, expectText, joined, limited } from './library.mjs';
+import { explained } from './explaining.mjs';
+import { IMPORTS, Lines, LimitError, NO_LIMIT, askList, askPort, decode, encode, expectOptions, sheetText } from './library.mjs';
+import { PORT_MATCHES, PORT_RULES, PORT_SHEET, PORT_SKIPPED, PORT_STYLES, expectText, joined, limited, sizes } from './library.mjs';
 import { Places, blocksOf, everyBlock, unsupportedIn } from './nested.mjs';
 import { prettify } from './printing.mjs';
-import { conditionsOf, lower, readSheet, Source } from './reading.mjs';
+import { conditionsOf, lower, placed, readSheet, Source } from './reading.mjs';
 import { decoded, originating, pseudoNames } from './tokens.mjs';
 import { NUMBERS, PORT, ReadText, SelectorError, Tree, grammarOf, matches, refusedList } from './tree.mjs';
 import { unusedOf } from './unused.mjs';
@@ -116,7 +118,7 @@ export class StyleSheet {
   }
 
   #contentsOfPort() {
-    const lines = new Lines(call('port_rules', this.#words(), { isBytes: true })), rules = [];
+    const lines = new Lines(this.#askPort(PORT_RULES, { isBytes: true })), rules = [];
     while (lines.areLeft) rules.push(ruleOfPort(lines));
     return { rules, unsupported: [], atRules: [], nested: new Map() };
   }
@@ -146,13 +148,15 @@ export class StyleSheet {
    * rule. They are those of style rules with rules in them, and all of texts that declare namespaces.
    */
   * #placedRules(blocks) {
-    const every = new Winning(this.#statements(), () => true, this.#limit), texts = every.texts();
+    const every = new Winning(this.#statements(), () => true, this.#limit, true), texts = every.texts();
     const found = every.rules.map((rule, index) => ({ ...rule, text: texts[index] }));
     found.sort((a, b) => a.sheet - b.sheet || a.start - b.start);
     const places = blocks.map(each => new Places(each));
     for (const each of found) {
       const block = places[each.sheet].at(each.start);
-      if (block) yield { ...placedRule(each.sheet, each.start, block.span[0], nestedRule(each, block)), text: each.text };
+      if (!block) continue;
+      const rule = placed(nestedRule(each, block), this.#statements()[each.sheet].source, block.rule);
+      yield { ...placedRule(each.sheet, each.start, block.span[0], rule), text: each.text };
     }
   }
 
@@ -170,8 +174,8 @@ export class StyleSheet {
       for (const { block, selector, declarations } of unsupportedIn(source, inner, placed[sheet])) {
         left -= declarations.length;
         if (left < 0) throw new LimitError(TOO_MANY);
-        const { conditions, parents } = block;
-        yield { sheet, at: block.span[0], rule: { selector, declarations, conditions, parents } };
+        const { conditions, parents } = block, rule = placed({ selector, declarations, conditions, parents }, source, block.rule);
+        yield { sheet, at: block.span[0], rule };
       }
     }
   }
@@ -187,7 +191,7 @@ export class StyleSheet {
    * since they count nowhere else.
    */
   toString() {
-    if (this.#grammar === PORT) return call('port_sheet', this.#words()).slice(0, -1);
+    if (this.#grammar === PORT) return this.#askPort(PORT_SHEET).slice(0, -1);
     const [first, ...others] = this.#statements();
     if (!first) return '';
     const found = others.map(({ source }) => withoutImports(source)), end = frontOf(first);
@@ -200,9 +204,9 @@ export class StyleSheet {
     return { rules: this.rules, unsupported: this.unsupported, atRules: this.atRules };
   }
 
-  /** The texts as a call takes them, and the limit. */
-  #words() {
-    return [...joined(this.#texts), limited(this.#limit)];
+  /** Returns what is asked by the grammar of the Rust crate, of a tree or of none. */
+  #askPort(asked, options, tree) {
+    return askPort(asked, joined(this.#texts), limited(this.#limit), tree, options);
   }
 
   /** Returns for each element, or its node, the indices of the rules that match it, in order. */
@@ -213,11 +217,14 @@ export class StyleSheet {
     });
   }
 
-  /** Returns for each element, or its node, the winning declaration of each name, in the order of the cascade. */
+  /**
+   * Returns for each element, or its node, the winning declaration of each name, in the order of the cascade. One whose value no
+   * browser takes wins nowhere unless `anyValue` is true.
+   */
   styles(root, options) {
-    const media = mediaOf(options);
+    const asked = askedOf(options);
     return this.#byElement(root, elements => (
-      this.#grammar === PORT ? this.#winnersByPort(elements) : this.#winners(elements, media)));
+      this.#grammar === PORT ? this.#winnersByPort(elements) : this.#winners(elements, asked)));
   }
 
   /** Returns for each element, or its node, the winning declaration of the name, or null. */
@@ -228,6 +235,19 @@ export class StyleSheet {
       found.set(element, winners.find(each => each.name === wanted) ?? null);
     }
     return found;
+  }
+
+  /**
+   * Returns for each element, or its node, the declarations of a property that apply to it, the strongest first, and the one that wins.
+   * `names` are other properties that set it, such as its shorthands.
+   */
+  explain(root, name, options) {
+    expectOptions(options, ['media', 'anyValue', 'names']);
+    if (this.#grammar === PORT) throw new TypeError('a sheet of the modern grammar is expected');
+    const { names = [], ...others } = options ?? {}, asked = askedOf(others), every = [name, ...names];
+    every.forEach(expectText);
+    return this.#byElement(root, elements => (
+      explained(this.#statements(), this.#winning(asked), elements, every, this.#answerLimit, asked.anyValue)));
   }
 
   /**
@@ -247,21 +267,20 @@ export class StyleSheet {
   }
 
   #matchedByPort(elements) {
-    const lines = this.#callOfPort('port_match', elements).split('\n').slice(0, -1);
+    const lines = this.#askedOfPort(PORT_MATCHES, elements).split('\n').slice(0, -1);
     return this.#counted(lines.map(line => numbersIn(line).map(number => number - 1)));
   }
 
   #winnersByPort(elements) {
-    const lines = new Lines(this.#callOfPort('port_styles', elements, true)), found = [];
+    const lines = new Lines(this.#askedOfPort(PORT_STYLES, elements, true)), found = [];
     while (lines.areLeft) found.push(declarationsOfPort(lines, lines.numbers()[0]));
     return this.#counted(found);
   }
 
-  /** Calls what matches by the grammar of the Rust crate. A rule or a declaration may have many bytes of the answer. */
-  #callOfPort(name, elements, isBytes = false) {
-    const most = limited(MOST_BYTES * this.#answerLimit);
-    const options = { room: 1024 + 64 * elements.names.length, most, hasTree: true, isBytes };
-    return call(name, [...this.#words(), elements.arrays(PORT)], options);
+  /** Returns what is asked of elements by the grammar of the Rust crate. A rule or a declaration may have many bytes of it. */
+  #askedOfPort(asked, elements, isBytes = false) {
+    const options = { room: 1024 + 64 * elements.names.length, most: limited(MOST_BYTES * this.#answerLimit), isBytes };
+    return this.#askPort(asked, options, elements.arrays(PORT));
   }
 
   /** Returns an answer, if it is not too long. */
@@ -287,9 +306,9 @@ export class StyleSheet {
 
   /** Yields for each element the indices of the rules that match it of those that the library places. */
   * #nestedOn(elements, media) {
-    const winning = this.#winning(media), taken = new Map();
+    const winning = this.#winning({ media, anyValue: true }), taken = new Map();
     const kept = winning.rules.map(({ sheet, start }) => {
-      const place = placeOf(sheet, start), turn = taken.get(place) ?? 0, index = this.#all().nested.get(place)?.[turn];
+      const place = keyOf(sheet, start), turn = taken.get(place) ?? 0, index = this.#all().nested.get(place)?.[turn];
       taken.set(place, turn + 1);
       return index === undefined || this.rules[index].pseudoElement !== null ? null : index;
     });
@@ -298,9 +317,9 @@ export class StyleSheet {
     }
   }
 
-  #winners(elements, media) {
-    const winning = this.#winning(media);
-    if (elements.names.length * winning.count > COMPARED * this.#answerLimit) this.#checkCompared(elements, media);
+  #winners(elements, asked) {
+    const winning = this.#winning(asked);
+    if (elements.names.length * winning.count > COMPARED * this.#answerLimit) this.#checkCompared(elements, asked.media);
     return winning.on(elements, this.#answerLimit);
   }
 
@@ -314,13 +333,13 @@ export class StyleSheet {
     }
   }
 
-  /** Returns the rules that apply on a device. */
-  #winning(media) {
+  /** Returns the rules that apply on a device, with any values or with those that browsers take. */
+  #winning({ media, anyValue }) {
     const read = this.#statements();
     this.#checkLimit();
-    if (typeof media === 'function') return new Winning(read, media, this.#limit);
-    const key = JSON.stringify(media);
-    if (!this.#winningOn.has(key)) this.#winningOn.set(key, new Winning(read, media, this.#limit));
+    if (typeof media === 'function') return new Winning(read, media, this.#limit, anyValue);
+    const key = JSON.stringify([media, anyValue]);
+    if (!this.#winningOn.has(key)) this.#winningOn.set(key, new Winning(read, media, this.#limit, anyValue));
     return this.#winningOn.get(key);
   }
 }
@@ -337,7 +356,7 @@ function frontOf({ statements }) {
 
 /** Returns the `@import`s of a text that are in force, and the text without them. */
 function withoutImports(source) {
-  const lines = new Lines(call('imports', [source.data], { isBytes: true })), imports = [], rest = [];
+  const lines = new Lines(sheetText(source.data, IMPORTS, { isBytes: true })), imports = [], rest = [];
   let done = 0;
   while (lines.areLeft) {
     const [start, size, , ...lengths] = lines.numbers();
@@ -371,11 +390,11 @@ function declarationsOfPort(lines, count) {
 }
 
 /** Returns a text that says where something is, by the number of its sheet. */
-const placeOf = (sheet, start) => `${sheet} ${start}`;
+const keyOf = (sheet, start) => `${sheet} ${start}`;
 
 /** Returns a rule with the places of its declarations and its block. */
 function placedRule(sheet, start, first, rule) {
-  return { sheet, at: start, first, start: placeOf(sheet, start), block: placeOf(sheet, first), rule };
+  return { sheet, at: start, first, start: keyOf(sheet, start), block: keyOf(sheet, first), rule };
 }
 
 /** Compares two rules by their specificity, and by where they are. */
@@ -390,17 +409,20 @@ const isNamespace = ({ kind, rule }) => kind === 'at-rule' && rule.name === 'nam
 /** Returns the rules of rule sets, of those whose blocks are not among these, and the unsupported ones of all that are not known. */
 function rulesOf(read, blocks, isKnown) {
   const rules = [], unsupported = [];
-  const sets = read.flatMap(({ statements }, sheet) => (
-    statements.filter(each => each.kind === 'rule').map(set => ({ ...set, sheet }))));
+  const sets = read.flatMap(({ source, statements }, sheet) => (
+    statements.filter(each => each.kind === 'rule').map(set => ({ ...set, source, sheet }))));
   for (const set of sets) {
-    const { selectors, declarations, levels, head: [, start], sheet } = set;
-    const conditions = conditionsOf(levels), block = placeOf(sheet, start);
-    for (const { text, front, specificity, pseudoElement } of selectors) {
-      const rule = { selector: front, specificity, declarations, conditions, pseudoElement, parents: [] };
+    const { selectors, declarations, levels, head: [, start], source, sheet } = set;
+    const conditions = conditionsOf(levels), block = keyOf(sheet, start);
+    for (const { text, front, specificity, pseudoElement, span } of selectors) {
+      const whole = [span[0], set.span[1]];
       if (specificity === null) {
-        const other = { selector: text, declarations, conditions, parents: [] };
+        const other = placed({ selector: text, declarations, conditions, parents: [] }, source, whole);
         if (!isKnown(set, block, text)) unsupported.push({ sheet, at: start, rule: other });
-      } else if (!blocks.has(block)) rules.push(placedRule(sheet, start, start, rule));
+      } else if (!blocks.has(block)) {
+        const rule = { selector: front, specificity, declarations, conditions, pseudoElement, parents: [] };
+        rules.push(placedRule(sheet, start, start, placed(rule, source, whole)));
+      }
     }
   }
   return { rules, unsupported };
@@ -433,7 +455,8 @@ function faultsOf(statements) {
 
 /** Returns what the grammar of the Rust crate skips of a text. The text of a fault may lack blanks at its front. */
 export function skippedByPort(text) {
-  const source = new Source(text), lines = new Lines(call('port_skipped', [source.data], { isBytes: true })), faults = [];
+  const source = new Source(text), words = [PORT_SKIPPED, [source.data, sizes([])], NO_LIMIT];
+  const lines = new Lines(askPort(...words, undefined, { isBytes: true })), faults = [];
   while (lines.areLeft) {
     const [row, column, length, ...reason] = lines.line().split(' ');
     const start = source.offset(Number(row), Number(column)), first = source.index(start), part = lines.text(Number(length));
@@ -453,6 +476,14 @@ function mediaOf(options) {
   return media;
 }
 
+/** Returns the device of options, and whether any value may win. */
+function askedOf(options) {
+  expectOptions(options, ['media', 'anyValue']);
+  const { anyValue = false, ...others } = options ?? {};
+  if (typeof anyValue !== 'boolean') throw new TypeError('`anyValue` is true or false');
+  return { media: mediaOf(others), anyValue };
+}
+
 /** Returns the rules of a style sheet. */
 export function rules(sheet, options) {
   return new StyleSheet(sheet, options).rules;
@@ -460,7 +491,7 @@ export function rules(sheet, options) {
 
 /** Returns for each element of a tree, or for each node, the declarations that win on it. */
 export function styles(root, sheet, options) {
-  expectOptions(options, [...SHEET_OPTIONS, 'media']);
-  const { media, ...others } = options ?? {};
-  return new StyleSheet(sheet, others).styles(root, { media });
+  expectOptions(options, [...SHEET_OPTIONS, 'media', 'anyValue']);
+  const { media, anyValue, ...others } = options ?? {};
+  return new StyleSheet(sheet, others).styles(root, { media, anyValue });
 }

@@ -12,6 +12,8 @@ const COMBINATORS = new Set(['>', '+', '~']), OPENING = new Set(['(', '[', '{'])
 const GAPS = new Set(['whitespace', 'comment']);
 // The kinds of names that are of pseudo-classes and of pseudo-elements: each without parentheses and with them.
 const PSEUDO_CLASSES = [4, 5], PSEUDO_ELEMENTS = [6, 7];
+// How a text is written with escapes, as the library numbers it; without them, it is 0 for a name, and 1 in a string.
+const IDENTIFIER = 2n, QUOTED = 3n;
 // How many numbers the library writes of a token, and of a name.
 const WIDTH = 5, NAME_WIDTH = 6;
 
@@ -61,7 +63,7 @@ function isOpen(kind, text, endsWithin) {
 
 /** Returns what a name denotes, or what is between the quotes of a string. */
 export function decoded(text, isString) {
-  return call('decode', [encode(text), BigInt(isString)]);
+  return call('spell', [encode(text), BigInt(isString)]);
 }
 
 /**
@@ -107,10 +109,10 @@ export function originating(front) {
 
 /** Returns an identifier that denotes the name, as `CSS.escape` does. */
 export function escape(name) {
-  return call('escape', [encode(name)]);
+  return call('spell', [encode(name), IDENTIFIER]);
 }
 
 /** Returns a string in double quotes that denotes the text. */
 export function quote(text) {
-  return call('quote', [encode(text)]);
+  return call('spell', [encode(text), QUOTED]);
 }

@@ -1,7 +1,7 @@
 // Trees of elements: of a DOM, of parse5, of domhandler, or of a program's own.
-import { KeptPage, NO_LIMIT, TreeError, askList, call, encode } from './library.mjs';
+import { KeptPage, KeptQuery, NO_LIMIT, PORT_SELECTED, TreeError, askList, askPort, call, encode } from './library.mjs';
 import { expectOptions, expectText, joined, limited, sizes } from './library.mjs';
-import { decodedPage, pageOf } from './html.mjs';
+import { decodedPage, documentOf, pageOf } from './html.mjs';
 import { lower } from './reading.mjs';
 
 // The grammars: that of browsers, and that of the Rust crate.
@@ -120,6 +120,16 @@ export class Element {
   /** Where its start tag begins, if that is known. */
   get row() { return this.#elements.places[this.index]?.row ?? null; }
   get column() { return this.#elements.places[this.index]?.column ?? null; }
+  /** Its namespace, or null if it is in none. */
+  get namespace() { return this.#elements.spaces[this.index] || null; }
+  get isDrawn() { return this.namespace === SPACE_OF_SVG; }
+  /** Where its start tag and its end tag begin and end in the text that the tree was read from, if it has them there. */
+  get startTag() { return this.#elements.written?.startTag(this.index) ?? null; }
+  get endTag() { return this.#elements.written?.endTag(this.index) ?? null; }
+  /** Where its attributes are there, by their names: each from its name to the end of its value, with quotes. */
+  get attributePlaces() { return this.#elements.written?.attributePlaces(this.index) ?? new Map(); }
+  /** The text of it and of all elements in it, if the tree was read from a text. */
+  get text() { return this.#elements.written?.text(this.index, this.#elements.endOf(this.index)) ?? null; }
   /** The node that it was made from. */
   get node() { return this.#elements.nodes[this.index] ?? null; }
   get parent() { return this.tree.elements[this.#elements.parents[this.index]] ?? null; }
@@ -166,6 +176,8 @@ class Elements {
   places = [];
   nodes = [];
   reading = AS_WRITTEN;
+  // Where the tags of a page are, and its texts, if it was read here.
+  written = null;
   #texts = [];
   #arrays = new Map();
   // What the library keeps, by the prefixes that are declared.
@@ -265,7 +277,7 @@ class Elements {
   /** Returns the indices of the elements that selectors of the Rust crate match, or null where they are refused. */
   #foundByPort(bytes) {
     const room = 1024 + 8 * this.names.length;
-    const written = call('select', [bytes, ...this.words(PORT), NO_LIMIT], { room, hasTree: true });
+    const written = askPort(PORT_SELECTED, [bytes, sizes([])], NO_LIMIT, this.arrays(PORT), { room });
     return written === null ? null : written.split('\n').slice(0, -1).map(number => number - 1);
   }
 
@@ -301,15 +313,27 @@ class Elements {
     return written.split('\n').slice(0, -1).map(line => line.slice(line.indexOf(':') + 1));
   }
 
+  /** Returns the `style` attribute of an element. */
+  styleOf(index) {
+    const attributes = this.spacedAttributes.get(index)?.plain ?? this.attributes[index];
+    return new Map(attributes).get('style') ?? '';
+  }
+
   /**
-   * Returns what a call, which takes `more`, writes of each element for sheets: how many winners or rules it has, and so many
-   * numbers for each of these. More of them than `limit` are an error.
+   * Returns what a query of sheets is asked of each element: how many winners or rules it has, and so many numbers for each of
+   * these. More of them than `limit` are an error. `names` are those of a property, and `own` the `style` attributes.
    */
-  numbers(name, sheets, more, width, limit) {
-    const [grammar, tree] = this.words(MODERN), room = 1024 + ROOM_FOR_ELEMENT * this.names.length;
-    const most = BigInt(this.names.length) + BigInt(width) * limited(limit);
-    const options = { room, most: most < NO_LIMIT ? most : NO_LIMIT, hasTree: true, isNumbers: true };
-    return call(name, [sheets, grammar, NO_LIMIT, tree, ...more], options);
+  numbers(asked, sheets, width, limit, { names = [], own = [] } = {}) {
+    const [grammar, tree] = this.words(MODERN), count = this.names.length;
+    const most = BigInt(count) + BigInt(width) * limited(limit);
+    const texts = own.some(Boolean) ? own.flatMap(each => [each, '']) : [];
+    const query = new KeptQuery(tree, grammar, sheets, NO_LIMIT, { arrays: joined(texts) });
+    try {
+      const options = { room: 1024 + ROOM_FOR_ELEMENT * count, most: most < NO_LIMIT ? most : NO_LIMIT };
+      return query.numbers(asked, names, 0, count, options);
+    } finally {
+      query.close();
+    }
   }
 
   /** Returns the number of a grammar, of the modern one as the document reads it, and the tree, as calls of the library take them. */
@@ -471,20 +495,38 @@ export class Tree {
   }
 
   /**
-   * Reads a page in HTML, as browsers do without scripts; or with `isPart` the content of a `body`. What is in a template is left out.
-   * A page in bytes is in the encoding that it names, or in that of the label `encoding`, which a server names.
+   * Reads a page in HTML, as browsers do without scripts; or the content of the element `context`, such as `td`, and with `isPart` of a
+   * `body`. What is in a template is left out. A page in bytes is in the encoding that it names, or in that of the label `encoding`,
+   * which a server names.
    */
   static fromHTML(given, options) {
-    expectOptions(options, ['isPart', 'encoding']);
-    const isText = !(given instanceof Uint8Array), label = options?.encoding;
+    expectOptions(options, ['isPart', 'context', 'encoding']);
+    const isText = !(given instanceof Uint8Array), label = options?.encoding, context = options?.isPart ? 'body' : options?.context;
     if (isText) expectText(given);
+    if (context !== undefined) expectText(context);
+    if (options?.isPart && options.context !== undefined) throw new TypeError('isPart is a context of its own');
     if (isText && label !== undefined) throw new TypeError('a text has no encoding: pass the bytes');
     const text = isText ? given : decodedPage(given, label);
-    const tree = new Tree(), all = tree.#elements, page = pageOf(text, options?.isPart);
+    const tree = new Tree(), all = tree.#elements, page = pageOf(text, context);
     all.reading = page.isQuirky ? QUIRKS : HTML;
+    all.written = page.written;
     for (const { spaced, ...each } of page.elements) {
       const index = all.add({ ...each, states: isLink(each.name, each.space, each.attributes) ? ['link'] : [] });
       const found = spacedAttributes(spaced, HTML);
+      if (found) all.spacedAttributes.set(index, found);
+    }
+    return tree;
+  }
+
+  /** Reads a document in XML, as SVG or XHTML. One that is not well-formed throws a `SyntaxError`. */
+  static fromXML(text) {
+    expectText(text);
+    const tree = new Tree(), all = tree.#elements, page = documentOf(text);
+    all.reading = AS_WRITTEN;
+    all.written = page.written;
+    for (const { spaced, ...each } of page.elements) {
+      const index = all.add({ ...each, states: isLink(each.name, each.space, each.attributes) ? ['link'] : [] });
+      const found = spacedAttributes(spaced, AS_WRITTEN);
       if (found) all.spacedAttributes.set(index, found);
     }
     return tree;

@@ -1,12 +1,15 @@
 // The declarations that win on the elements of a tree, as the library finds them.
 import { holds } from './device.mjs';
-import { call, decode, encode, joined, joinedBytes, limited, mostWritten, sizes } from './library.mjs';
+import { EXPLAINED, KeptQuery, MATCHES, NO_TREE, WINNERS, WINNERS_NAMED, decode, encode, joined, joinedBytes } from './library.mjs';
+import { limited, mostWritten, sizes } from './library.mjs';
 import { ENDS, edgesOf } from './nested.mjs';
 import { declared } from './reading.mjs';
+import { takenBytes } from './taken.mjs';
 import { SPACE_OF_HTML } from './tree.mjs';
 
-// How many numbers the library writes of a rule before those of its declarations, of each of these, and of one that wins.
-const OF_RULE = 9, OF_DECLARATION = 6, OF_WINNER = 2;
+// How many numbers the library writes of a rule before those of its declarations, of each of these, of one that wins, and of one that
+// is explained.
+const OF_RULE = 9, OF_DECLARATION = 6, OF_WINNER = 2, OF_EXPLAINED = 3;
 
 /** Yields the group rules of a sheet that hold, each of those in no other that does not. */
 function* held({ source }, applies) {
@@ -37,13 +40,16 @@ export class Winning {
   #limit;
   #size;
 
-  /** Takes sheets that are read, with their blocks. Rules with more declarations than `limit` are an error. */
-  constructor(sheets, media, limit) {
+  /**
+   * Takes sheets that are read, with their blocks, without declarations whose values no browser takes unless any may be. Rules with more
+   * declarations than `limit` are an error.
+   */
+  constructor(sheets, media, limit, anyValue) {
     const applies = asked(media), groups = new Map();
     for (const sheet of sheets) {
       for (const { name, prelude } of held(sheet, applies)) groups.set(`${name} ${prelude}`, [name, prelude]);
     }
-    const texts = sheets.map(each => each.source.data), pairs = [...groups.values()].filter(([name]) => name !== 'layer');
+    const texts = sheets.map(({ source: { data } }) => anyValue ? data : takenBytes(data)), pairs = [...groups.values()].filter(([name]) => name !== 'layer');
     this.#size = texts.reduce((sum, text) => sum + text.length, 0);
     this.#limit = limit;
     // A sheet without an origin is the author's, and one without a depth is in no group rule.
@@ -62,7 +68,7 @@ export class Winning {
 
   /** Yields the rules. The declarations of each block are of all rules of a rule set. */
   * #read(sources) {
-    const numbers = this.#numbers(), blocks = new Map();
+    const numbers = this.#asked(query => query.rules({ room: 1024 + this.#size })), blocks = new Map();
     for (let at = 0; at < numbers.length;) {
       const [sheet, start, , length, elementLength, ids, classes, types, count] = numbers.slice(at, at + OF_RULE);
       const first = at + OF_RULE, key = `${sheet} ${start}`;
@@ -77,14 +83,20 @@ export class Winning {
     return { arrays: [...this.#arrays, ...joined(namespaces)] };
   }
 
-  #numbers() {
-    return call('rules', [this.#sheets, limited(this.#limit)], { room: 1024 + this.#size, isNumbers: true });
+  /** Returns what is asked of a query of the sheets on no elements. */
+  #asked(ask) {
+    const query = new KeptQuery(NO_TREE, 0n, this.#sheets, limited(this.#limit), { arrays: joined([]) });
+    try {
+      return ask(query);
+    } finally {
+      query.close();
+    }
   }
 
   /** Returns the text of each rule's selector, with its pseudo-element. */
   texts() {
-    const options = { room: 1024 + 2 * this.#size, most: mostWritten(this.#size), isBytes: true };
-    const data = call('rule_texts', [this.#sheets, limited(this.#limit)], options);
+    const options = { room: 1024 + 2 * this.#size, most: mostWritten(this.#size) };
+    const data = this.#asked(query => query.texts(options));
     let end = 0;
     return this.rules.map(({ length }) => decode(data.subarray(end, end += length)));
   }
@@ -94,17 +106,26 @@ export class Winning {
    * are an error.
    */
   * matching(elements, limit) {
-    const numbers = elements.numbers('matches', this.#sheetsOn(elements.namespaces), [], 1, limit);
+    const numbers = elements.numbers(MATCHES, this.#sheetsOn(elements.namespaces), 1, limit);
     for (let at = 0, end; at < numbers.length; at = end) {
       end = at + 1 + numbers[at];
       yield numbers.slice(at + 1, end);
     }
   }
 
+  /**
+   * Returns the numbers of the declarations that apply to each element of a property with these names, and of the one that wins. `own`
+   * are the `style` attributes. More declarations than `limit` are an error.
+   */
+  explained(elements, names, own, limit) {
+    const sheets = this.#sheetsOn(elements.namespaces), most = Math.max(limit, elements.names.length);
+    const every = elements.numbers(EXPLAINED, sheets, OF_EXPLAINED, limit, { names, own });
+    return [every, elements.numbers(WINNERS_NAMED, sheets, OF_WINNER, most, { names, own })];
+  }
+
   /** Returns what wins on each element, in the order of the cascade. More declarations than `limit` are an error. */
   on(elements, limit) {
-    const sheets = this.#sheetsOn(elements.namespaces), own = { arrays: joined([]) };
-    const numbers = elements.numbers('winners', sheets, [own], OF_WINNER, limit);
+    const numbers = elements.numbers(WINNERS, this.#sheetsOn(elements.namespaces), OF_WINNER, limit);
     const found = [];
     for (let at = 0; at < numbers.length;) {
       const end = at + 1 + OF_WINNER * numbers[at], winners = [];
@@ -119,6 +140,7 @@ export class Winning {
 function* declarationsOf(source, numbers) {
   for (let at = 0; at < numbers.length; at += OF_DECLARATION) {
     const [name, nameLength, value, valueLength, important, closed] = numbers.slice(at, at + OF_DECLARATION);
-    yield declared(source, [name, name + nameLength], [value, value + valueLength], important !== 0, closed !== 0);
+    const end = value + valueLength;
+    yield declared(source, [name, end], [name, name + nameLength], [value, end], important !== 0, closed !== 0);
   }
 }

@@ -11,6 +11,7 @@ Every call may be made from any thread.
 
 TYPE_CHECKING = False
 if TYPE_CHECKING:
+    from ._bundling import bundle, prefix, rewrite_urls, scope
     from ._clean import (
         Cleaned,
         CSSSanitizer,
@@ -25,7 +26,9 @@ if TYPE_CHECKING:
     from ._declaration import Declaration
     from ._device import Device
     from ._elements import TreeError
-    from ._explaining import Contender, Explanation, Place
+    from ._editing import Edit, EditError
+    from ._encoding import PageEncoding, page_encoding
+    from ._explaining import Contender, Explanation
     from ._found_names import Name
     from ._inline import Inliner, inline
     from ._library import (
@@ -37,8 +40,10 @@ if TYPE_CHECKING:
         library_path,
     )
     from ._linked import Unread
-    from ._lint import Finding, lint, takes_value
+    from ._lint import Finding, lint
+    from ._taken import takes_value
     from ._minify import minify, prettify
+    from ._placed import Place
     from ._properties import has_valid_references, is_inherited, longhands, shorthands
     from ._properties import has_valid_references as is_valid_value
     from ._reading import AtRule, Condition, declarations
@@ -65,6 +70,8 @@ __all__ = [
     "Device",
     "Difference",
     "Dropped",
+    "Edit",
+    "EditError",
     "Element",
     "Explanation",
     "Finding",
@@ -75,6 +82,7 @@ __all__ = [
     "LimitError",
     "Name",
     "NotWritten",
+    "PageEncoding",
     "Place",
     "Policy",
     "Rule",
@@ -89,6 +97,7 @@ __all__ = [
     "Unsupported",
     "Unused",
     "__version__",
+    "bundle",
     "clean",
     "clean_style",
     "compare",
@@ -104,9 +113,13 @@ __all__ = [
     "lint",
     "longhands",
     "minify",
+    "page_encoding",
+    "prefix",
     "prettify",
     "quote",
     "resolve",
+    "rewrite_urls",
+    "scope",
     "shorthands",
     "takes_value",
     "tokens",
@@ -114,21 +127,27 @@ __all__ = [
 
 if not TYPE_CHECKING:
     import sys as _sys
+    from typing import get_type_hints as _get_type_hints
 
     # The names of each module, which is imported when one of them is first used.
     _NAMES = {
+        "_bundling": "bundle prefix rewrite_urls scope",
         "_clean": "CSSSanitizer Cleaned Dropped Policy clean clean_style is_clean is_clean_style",
         "_compare": "Difference compare",
         "_declaration": "Declaration",
         "_device": "Device",
         "_elements": "TreeError",
-        "_explaining": "Contender Explanation Place",
+        "_editing": "Edit EditError",
+        "_encoding": "PageEncoding page_encoding",
+        "_explaining": "Contender Explanation",
         "_found_names": "Name",
         "_inline": "Inliner inline",
         "_library": "InternalError LibraryError LimitError __version__ is_proved library_path",
         "_linked": "Unread",
-        "_lint": "Finding lint takes_value",
+        "_lint": "Finding lint",
+        "_taken": "takes_value",
         "_minify": "minify prettify",
+        "_placed": "Place",
         "_properties": "has_valid_references is_inherited longhands shorthands",
         "_reading": "AtRule Condition declarations",
         "_resolving": "resolve",
@@ -145,11 +164,14 @@ if not TYPE_CHECKING:
     _MODULES = {name: module for module in _NAMES for name in _NAMES[module].split()}
 
     def _show_public() -> None:
-        """Gives each class that is loaded the name by which it is imported."""
+        """Gives each class that is loaded the name by which it is imported, and its fields their types,
+        whose names are not in this module."""
         for module, names in _NAMES.items():
             loaded = _sys.modules.get(f"{__name__}.{module}")
             for each in map(vars(loaded).get, names.split()) if loaded else ():
-                if isinstance(each, type):
+                if isinstance(each, type) and each.__module__ != __name__:
+                    if "__annotations__" in vars(each):
+                        each.__annotations__ = _get_type_hints(each)
                     each.__module__ = __name__
 
     def __getattr__(name: str) -> object:

@@ -59,6 +59,8 @@ from ._words import words_of
 from ._writing import abandon, write_file
 from ._xml import is_xml
 
+# How a terminal shows what is this bad: in bold, and red, yellow or cyan.
+_COLOURS = {"error": "1;31", "warning": "1;33", "note": "1;36"}
 # After how many seconds a bar of progress is shown.
 _PATIENCE = 2.0
 # What the lists of operands are called.
@@ -370,9 +372,12 @@ def _names_of(word: str, words: argparse.Namespace, project: Project) -> List[st
     return [each for each in found if is_named or not is_excluded(each, project)]
 
 
-def _bold(text: str) -> str:
-    """Returns the text in bold on a terminal."""
-    return f"\033[1m{text}\033[0m" if sys.stdout.isatty() else text
+def _marked(text: str, severity: Optional[str] = None) -> str:
+    """Returns the text in bold on a terminal, and in the colour of a severity unless `NO_COLOR` is set."""
+    if not sys.stdout.isatty():
+        return text
+    has_colour = severity is not None and not os.environ.get("NO_COLOR")
+    return f"\033[{_COLOURS[severity] if severity and has_colour else 1}m{text}\033[0m"
 
 
 def _explain(words: Sequence[str]) -> int:
@@ -427,8 +432,15 @@ def _report(
         return
     form = "json" if words.json else words.format
     write = _lint.FORMATS.get(form)
-    stream.write(write(found, project.level) if write else _lint.as_text(found, _bold))
-    if not write and stream.isatty():
+    if write:
+        stream.write(write(found, project.level))
+        return
+
+    def mark(text: str, each: _lint.Finding) -> str:
+        return _marked(text, project.level(each.kind) or each.severity)
+
+    stream.write(_lint.as_text(found, mark))
+    if stream.isatty():
         files = len({each.file for each in found})
         stream.write(f"{len(found)} findings in {files} of {count} files\n")
 
@@ -467,7 +479,7 @@ def _unused(words: argparse.Namespace) -> int:
         if words.json:
             sys.stdout.write(json_line({"file": file, **each._asdict()}))
             continue
-        place = _bold(f"{printable(file)}:{each.row}:{each.column}")
+        place = _marked(f"{printable(file)}:{each.row}:{each.column}")
         text = printable(" ".join(words_of(each.selector)))
         more = "" if each.is_whole else ", and others of its rule do"
         sys.stdout.write(f"{place}: '{text}' matches nothing{more}\n")
@@ -543,6 +555,8 @@ def _parser() -> argparse.ArgumentParser:
     _add_writing(add("minify", _minify, _jobs.Minify, text))
     text = "Write style sheets with a line for each rule and each declaration."
     _add_writing(add("prettify", _minify, _jobs.Prettify, text))
+    text = "Write style sheets with edits, and every other byte as it is."
+    _add_edit(add("edit", _minify, _jobs.EditSheet, text))
     text = "Write what a policy allows of style sheets from strangers, under a scope."
     _add_clean(add("clean", _clean, _jobs.Clean, text))
     text = "Show the selectors of style sheets that match nothing on any of the pages."
@@ -579,6 +593,21 @@ def _add_writing(command: Any) -> None:
     command.add_argument("sheets", nargs="+", metavar="SHEET", help=text)
 
 
+def _add_edit(command: Any) -> None:
+    text = "put imported sheets in the place of `@import`, in their layers and conditions"
+    command.add_argument("--bundle", action="store_true", help=text)
+    text = "write rules in style rules apart, for browsers without nesting"
+    command.add_argument("--flatten", action="store_true", help=text)
+    command.add_argument("--base-url", metavar="URL", help="resolve relative urls against it")
+    text = "put this before the names of classes"
+    command.add_argument("--prefix", metavar="TEXT", help=text)
+    text = "put a selector and a blank before all selectors"
+    command.add_argument("--scope", metavar="SELECTOR", help=text)
+    command.add_argument("--map", action="store_true", help="end with a source map")
+    _add_writing(command)
+    command.add_argument("--folder", metavar="PATH", help="the folder of imported sheets")
+
+
 def _add_clean(command: Any) -> None:
     kind = command.add_mutually_exclusive_group(required=True)
     text = "the selector that all selectors are put under, such as `.mail`"
@@ -586,6 +615,18 @@ def _add_clean(command: Any) -> None:
     kind.add_argument("--style", action="store_true", help="the texts are style attributes")
     text = "what is allowed (default: mail)"
     command.add_argument("--policy", choices=POLICIES, default="mail", help=text)
+    for name, text in (
+        ("add", "allow the property, too"),
+        ("remove", "do not allow the property"),
+    ):
+        command.add_argument(f"--{name}", metavar="NAME", action="append", default=[], help=text)
+    text = "a limit of a property, such as `margin=0,500,auto`"
+    command.add_argument("--limit", metavar="NAME=LIMIT", action="append", default=[], help=text)
+    text = "keep the at-rule, too"
+    at_rules = ("supports", "container", "layer", "keyframes")
+    command.add_argument("--at-rule", choices=at_rules, action="append", default=[], help=text)
+    text = "what is put before names: ids, classes, layers, keyframes and custom properties"
+    command.add_argument("--prefix", metavar="PREFIX", help=text)
     text = "write nothing; status 1 if a text is not clean"
     command.add_argument("--check", action="store_true", help=text)
     text = "report on standard error what is dropped"
@@ -656,6 +697,8 @@ def _add_select(command: Any) -> None:
 
 def _add_compare(command: Any) -> None:
     _add_device(command)
+    text = "compare on all devices that conditions of @media tell apart, from this one on"
+    command.add_argument("--all-conditions", action="store_true", help=text)
     command.add_argument("old", metavar="OLD", help="a style sheet")
     command.add_argument("new", metavar="NEW", help="the style sheet that it is compared with")
     text = "a page, folder or pattern"
@@ -665,7 +708,12 @@ def _add_compare(command: Any) -> None:
 def _add_explain(command: Any) -> None:
     text = "a style sheet (default: those of the page)"
     command.add_argument(
-        *("--sheet",), dest="sheets", action="append", default=[], metavar="FILE", help=text
+        *("--sheet",),
+        dest="sheets",
+        action="append",
+        default=[],
+        metavar="FILE",
+        help=text,
     )
     command.add_argument("--html", metavar="FILE", help="write a page of HTML into a file")
     text = "with what HTML and SVG suggest to browsers"

@@ -4,13 +4,18 @@ from __future__ import annotations
 
 from typing import Dict, Iterable, List, NamedTuple, Protocol, TypeVar
 
+from ._placed import HasPlace
 
-class Declaration(NamedTuple):
-    """A declaration (CSS 2.1 section 4.1.8): `name`, `value`, and whether it is `important`."""
 
+class _Declaration(NamedTuple):
     name: str
     value: str
     important: bool
+
+
+class Declaration(_Declaration, HasPlace):
+    """A declaration (CSS 2.1 section 4.1.8): `name`, `value`, and whether it is `important`. One of a rule of a
+    sheet has a `place`."""
 
     def __str__(self) -> str:
         return f"{self.name}: {self.value}{' !important' if self.important else ''}"

@@ -5,7 +5,7 @@ from __future__ import annotations
 import ctypes
 import functools
 import os
-from typing import Any, Callable, NamedTuple, Optional, Tuple, Union
+from typing import Any, Callable, Dict, NamedTuple, Optional, Tuple, Union
 
 from . import _library as library
 from ._reading import Condition
@@ -28,8 +28,9 @@ _DISPLAY_MODES = (
 )
 _CONTRASTS = ("no-preference", "more", "less", "custom")
 # A resolution is told in thousandths.
-_THOUSAND = 1000
-_MOST = 2**32 - 1
+THOUSAND = 1000
+# The greatest number of a device.
+MOST = 2**32 - 1
 # The group rule that always holds.
 LAYER = "layer"
 # What a list of media queries says.
@@ -83,6 +84,25 @@ class Device(NamedTuple):
     forced_colors: bool = False
     any_hover: bool = False
     any_pointer: str = "none"
+
+
+# The fields of which a device has one of few values, together where tests ask about both.
+_BOTH = (False, True)
+CHOICES: Tuple[Dict[str, Tuple[Any, ...]], ...] = (
+    {"dark": _BOTH},
+    {"reduced_motion": _BOTH},
+    {"reduced_transparency": _BOTH},
+    {"contrast": _CONTRASTS},
+    {"forced_colors": _BOTH},
+    {"hover": _BOTH, "any_hover": _BOTH},
+    {"pointer": _POINTERS, "any_pointer": (*_POINTERS, "coarse fine")},
+    {"color_gamut": _GAMUTS},
+    {"high_dynamic_range": _BOTH},
+    {"grid": _BOTH},
+    {"update": _UPDATES},
+    {"scripting": _SCRIPTING},
+    {"display_mode": _DISPLAY_MODES},
+)
 
 
 # A device, or the type of one; or what decides of the prelude of a group rule whether its rules
@@ -145,7 +165,7 @@ def _numbers(device: Device) -> _Device:
     return _Device(
         width=_number("width", device.width),
         height=_number("height", device.height),
-        resolution=_number("resolution", round(device.resolution * _THOUSAND)),
+        resolution=_number("resolution", round(device.resolution * THOUSAND)),
         medium=medium,
         pointer=_chosen("pointer", device.pointer, _POINTERS),
         hover=device.hover,
@@ -187,7 +207,7 @@ def _own(name: str, number: Optional[int]) -> int:
 
 
 def _number(name: str, number: int) -> int:
-    if not 0 <= number <= _MOST:
+    if not 0 <= number <= MOST:
         raise ValueError(f"the {name} of a device is from 0 to 2^32 - 1")
     return number
 

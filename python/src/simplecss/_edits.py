@@ -1,4 +1,4 @@
-"""Edits of an HTML page, which the library makes: it reads the page again, whose tree has to be the same."""
+"""Edits of a page in HTML or XML, which the library makes: it reads the page again, whose tree has to be the same."""
 
 from __future__ import annotations
 
@@ -11,6 +11,8 @@ from . import _library as library
 SET, BEFORE, REMOVE = 1, 2, 3
 # A new text of a `style` element, a new one, one that goes, and one in place of another or of a link.
 TEXT, PUT_IN, TAKE_OUT, REPLACE = 4, 5, 6, 7
+# An instruction of XML that names a sheet goes.
+TAKE_OUT_INSTRUCTION = 8
 
 _NAME = "simplecss_html_edit"
 
@@ -24,7 +26,8 @@ class OtherTree(ValueError):
 
 
 class Edit(NamedTuple):
-    """An edit: where it is, the index of its start tag, and a name, or none, and a text."""
+    """An edit: where it is, the index of its start tag, a name, or the prefix of a new element in XML, or none,
+    and a text."""
 
     kind: int
     start: int
@@ -37,6 +40,8 @@ class Edit(NamedTuple):
         """Returns the numbers of the edit, by the offsets of places in bytes."""
         if self.kind == PUT_IN:
             return self.kind, offsets[self.start], 0
+        if self.kind == TAKE_OUT_INSTRUCTION:
+            return self.kind, offsets[self.start], offsets[self.end]
         return (
             self.kind,
             self.tag,
@@ -71,7 +76,7 @@ def _offsets(text: str, places: Iterable[int]) -> Dict[int, int]:
     return found
 
 
-def edited(text: str, edits: List[Edit]) -> str:
+def edited(text: str, edits: List[Edit], is_xml: bool) -> str:
     """Returns a page with edits. `OtherTree` is raised if it would have another tree."""
     if not edits:
         return text
@@ -80,9 +85,10 @@ def edited(text: str, edits: List[Edit]) -> str:
     rows = [number for each in ordered for number in each.numbers(offsets)]
     strings = [string.encode("utf-8") for each in ordered for string in (each.name, each.text)]
     data = library.encode(text)
+    flags = library.IS_XML if is_xml else 0
     arrays = library.sizes(rows), b"".join(strings), library.ends_of(map(len, strings))
-    room = len(data) + 2 * len(arrays[1]) + 32 * len(ordered)
-    answer = library.call(_NAME, data, *arrays, room=room, with_fault=True)
+    room = len(data) + 2 * len(arrays[1]) + 48 * len(ordered)
+    answer = library.call(_NAME, data, flags, *arrays, room=room, with_fault=True)
     if answer.fault is not None:
         raise OtherTree(answer.fault.element - 1)
     if answer.status == library.REFUSED:

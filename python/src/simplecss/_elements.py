@@ -13,6 +13,7 @@ import itertools
 import re
 from typing import (
     Any,
+    Callable,
     Dict,
     FrozenSet,
     Iterable,
@@ -23,12 +24,13 @@ from typing import (
     Sequence,
     Set,
     Tuple,
+    TypeVar,
     Union,
 )
 
 from . import _library as library
 from ._html import MATH, SVG, HtmlPage
-from ._kept import KeptPage
+from ._kept import KeptPage, KeptQuery
 from ._patterns import pattern
 from ._selectors import (
     MODERN,
@@ -44,9 +46,9 @@ from ._selectors import (
     matched_of_port,
     selector_error,
 )
-from ._spaced import HTML_SPACE, MATH_SPACE, SVG_SPACE, Attributes, parted_in_html
+from ._spaced import HTML_SPACE, MATH_SPACE, SVG_SPACE, Attributes, has_link, parted_in_html
 from ._words import BLANKS, lower, words_of
-from ._xml import SheetLink, XmlDocument
+from ._xml import SheetLink, XmlPage
 
 # The states of an element that the library numbers.
 STATES = {"link": 1, "visited": 2, "hover": 4, "active": 8, "focus": 16}
@@ -67,8 +69,6 @@ NO_STATES: FrozenSet[str] = frozenset()
 LINK = frozenset(("link",))
 # The number of the library for an element that has a text of its own.
 _HAS_TEXT = 32
-# How many numbers of what wins on an element there is room for at first.
-_ROOM_FOR_ELEMENT = 64
 # How many lists of selectors have their answers kept.
 _MOST_QUESTIONS = 32
 # For how many sets of prefixes the library keeps the page of a tree.
@@ -81,6 +81,8 @@ _LISTED = pattern(r"[hH][aA][sS]\(|[^-][oO][fF]|[&\\]")
 _LINK_NAMES = ("a", "area")
 _TO_SPACES = str.maketrans(BLANKS, " " * len(BLANKS))
 
+# What is kept of elements.
+_Kept = TypeVar("_Kept")
 # Selectors, and the states of the elements that each matches.
 States = Mapping[Selectors, Iterable[str]]
 # Prefixes of selectors and the namespaces of each. That of the empty prefix is the default one.
@@ -200,6 +202,8 @@ class _Computed:
         self.arrays: Dict[str, library.TreeArrays] = {}
         self.pages: Dict[Prefixes, KeptPage] = {}
         self.questions: Dict[Tuple[str, str, Prefixes], Question] = {}
+        # What style sheets were asked last, and of what.
+        self.last: Optional[Tuple[object, Any]] = None
         # The numbers of namespaces, of which nothing stands for none.
         self.numbers: Optional[Dict[str, int]] = None
         self.states: Optional[Dict[int, FrozenSet[str]]] = None
@@ -222,6 +226,8 @@ class Elements:
         # The row and column where each element begins, but in a document that was read as HTML here.
         self.places: List[Tuple[Optional[int], Optional[int]]] = []
         self.source: Optional[str] = None
+        # The document in XML that was read.
+        self.document: Optional[XmlPage] = None
         # The elements of the tree that these were made from.
         self.nodes: Optional[List[Any]] = None
         # What instructions of an XML document name.
@@ -273,6 +279,19 @@ class Elements:
         return self._in_space(MATH)
 
     @functools.cached_property
+    def page_sheets(self) -> Optional[Dict[int, int]]:
+        """Of each element of a page in HTML that is a style sheet, or a link to one, what it is."""
+        return None if self._page is None else self._page.sheets()[1]
+
+    @functools.cached_property
+    def base(self) -> int:
+        """The index of the `base` whose url counts, or -1."""
+        if self._page is not None:
+            return self._page.sheets()[0]
+        bases = (index for index, name in enumerate(self.names) if name == "base")
+        return next((at for at in bases if at not in self.drawn and "href" in self.plain[at]), -1)
+
+    @functools.cached_property
     def spaced(self) -> Dict[int, Attributes]:
         """Of each element with attributes in namespaces, these and the others."""
         found: Dict[int, Attributes] = {}
@@ -288,6 +307,11 @@ class Elements:
         if self._page is None:
             return None
         return [(*tag, end) for tag, (_, end) in zip(self._page.tags(), self._page.ends())]
+
+    @functools.cached_property
+    def end_tags(self) -> Optional[List[Tuple[int, int]]]:
+        """Where each element's end tag begins and ends in `source`, or twice where it ends without one."""
+        return None if self._page is None else self._page.ends()
 
     @functools.cached_property
     def texts(self) -> _Texts:
@@ -344,21 +368,28 @@ class Elements:
                 plain[index] = attributes.plain
         return plain
 
-    def take_tags(self, document: XmlDocument, text: str) -> None:
+    def take_document(self, page: XmlPage) -> None:
         """Takes the elements of a document in XML."""
-        self.source = text
-        self.links = document.links
-        self.spans = [(tag.start, tag.inner, tag.end) for tag in document.tags]
-        for index, tag in enumerate(document.tags):
-            self.add(tag.name, tag.attributes, tag.parent)
-            self.places.append((tag.row, tag.column))
-            if tag.is_link:
+        self.source = page.text
+        self.links = list(page.links())
+        self.document = page
+        self.end_tags = page.ends()
+        self.spans = [(*tag, end) for tag, (_, end) in zip(page.tags(), self.end_tags)]
+        self.places += page.positions()
+        names, spaces = page.names(), page.spaces_of_elements()
+        rows = zip(names, spaces, page.every_attribute(), page.parents())
+        for index, (name, space, attributes, parent) in enumerate(rows):
+            plain = {key: value for of, key, value in attributes if not of}
+            spaced = [each for each in attributes if each[0]]
+            others = {key: value for _, key, value in spaced}
+            self.add(name, {**others, **plain} if spaced else plain, parent)
+            if has_link(name, space, plain, spaced):
                 self.states[index] = LINK
-            if tag.space == SVG_SPACE or not tag.space and document.tags[0].name == "svg":
+            if space == SVG_SPACE or not space and names[0] == "svg":
                 self.drawn.add(index)
-            self.spaces.append(tag.space)
-            self.take_spaced(index, tag.spaced)
-        for begun, owner, value in document.texts:
+            self.spaces.append(space)
+            self.take_spaced(index, Attributes(plain, spaced).with_language() if spaced else None)
+        for begun, owner, value in zip(*page.texts()):
             self.texts.add(begun, owner, value)
 
     def set_states(self, states: Optional[States]) -> None:
@@ -420,6 +451,34 @@ class Elements:
             return None
         start, _, end = self.spans[index]
         return None if start < 0 else self.source[start:end]
+
+    def start_tag_of(self, index: int) -> Optional[Tuple[int, int]]:
+        """Returns where the start tag of an element is in the source, if it is there."""
+        if self.spans is None or self.spans[index][0] < 0:
+            return None
+        return self.spans[index][:2]
+
+    def end_tag_of(self, index: int) -> Optional[Tuple[int, int]]:
+        """Returns where the end tag of an element is in the source, if it is there."""
+        if self.end_tags is None or self.end_tags[index][0] == self.end_tags[index][1]:
+            return None
+        return self.end_tags[index]
+
+    def attribute_places_of(self, index: int) -> Dict[str, Tuple[int, int]]:
+        """Returns where the attributes of an element are in the source."""
+        page = self.document or self._page
+        return {} if page is None else page.attribute_places(index)
+
+    def namespace_of(self, index: int) -> Optional[str]:
+        """Returns the namespace of an element, if it is in one. One of HTML of which it is not known is in that of
+        HTML."""
+        if self.spaces:
+            space = self.spaces[index]
+        else:
+            space = (
+                SVG_SPACE if index in self.drawn else MATH_SPACE if index in self.formulas else ""
+            )
+        return space or (None if self.reading == Reading.AS_WRITTEN else HTML_SPACE)
 
     def position(self, index: int) -> Tuple[Optional[int], Optional[int]]:
         """Returns the row and column where an element begins, as far as they are known."""
@@ -507,12 +566,11 @@ class Elements:
 
     def _ask_port(self, question: Question) -> List[int]:
         """Returns the indices of the elements that selectors of the Rust crate match."""
-        words = (library.encode(question.text), NUMBERS[PORT], self._arrays(PORT))
-        room, most = 1024 + 8 * len(self), library.NO_LIMIT
-        answer = library.call("simplecss_select", *words, room=room, with_fault=True, most=most)
+        words = [library.encode(question.text)], library.NO_LIMIT, self._arrays(PORT)
+        answer = library.port(library.PORT_SELECTED, *words, room=1024 + 8 * len(self))
         if answer.status == library.REFUSED:
             raise self._error(question)
-        output = library.output_of("simplecss_select", answer)
+        output = library.output_of("simplecss_port", answer)
         return [int(number) - 1 for number in output.split()]
 
     def _error(self, question: Question) -> SelectorError:
@@ -552,31 +610,19 @@ class Elements:
         are so many, with `most` declarations at most."""
         return matched_of_port(self._arrays(PORT), texts, most, count, limit)
 
-    def numbers(
-        self,
-        name: str,
-        sheets: library.SheetArrays,
-        more: Sequence[Any],
-        width: int,
-        limit: int,
-    ) -> "array.array[int]":
-        """Returns what a call, which takes `more`, writes of each element for sheets: how many winners or
-        rules it has, and so many numbers for each of these. More of them than `limit` raise `LimitError`.
-        """
-        spaces = list(map(library.encode, self.namespaces()))
-        words = (
-            sheets.with_namespaces(spaces),
-            self._number_of(MODERN),
-            library.NO_LIMIT,
-            self._arrays(MODERN),
-            *more,
-        )
-        room = 1024 + _ROOM_FOR_ELEMENT * len(self)
-        most = min(len(self) + width * limit, library.NO_LIMIT)
-        try:
-            return library.numbers_of(name, *words, room=room, with_fault=True, most=most)
-        except library.LimitError:
-            raise library.Room(limit).passed() from None
+    def query(self, sheets: library.SheetArrays, limit: int, own: library.OwnArrays) -> KeptQuery:
+        """Returns what the library keeps to be asked of the elements, of sheets with at most so many declarations, and
+        of declarations of the elements' own."""
+        known = sheets.with_namespaces(list(map(library.encode, self.namespaces())))
+        return KeptQuery(self._arrays(MODERN), self.reading, known, limit, own)
+
+    def asked_last(self, key: object, make: Callable[[], _Kept]) -> _Kept:
+        """Returns what was made for this key if it was the last, and else makes it."""
+        last = self._computed.last
+        if last is None or last[0] != key:
+            last = self._computed.last = key, make()
+        found: _Kept = last[1]
+        return found
 
     def _number_of(self, grammar: str) -> int:
         """Returns the number of a grammar for the library: of the modern one as the document reads

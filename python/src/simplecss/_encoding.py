@@ -8,7 +8,7 @@ import re
 from typing import Dict, FrozenSet, Iterator, NamedTuple, Optional, Set, Tuple
 
 from . import _library as library
-from ._html import HTML, HtmlPage
+from ._html import HtmlPage
 from ._library import LimitError
 
 _MARKS = (codecs.BOM_UTF8, codecs.BOM_UTF16_LE, codecs.BOM_UTF16_BE)
@@ -60,8 +60,6 @@ _USER_CHARACTERS = {each: 0xF700 + each for each in range(0x80, 0x100)}
 _DEFAULT, _LABEL = "default", "label"
 # The attributes of a `meta` that may name an encoding.
 _NAMING = ("charset", "http-equiv", "content")
-# The index of the head of a page, which has one.
-_HEAD = 1
 # How far the library looks into a page.
 _FRONT = 1024
 # Whatever may be the tag of a `meta`.
@@ -96,12 +94,12 @@ class EncodingError(UnicodeDecodeError):
     """A page could be written otherwise than it was read, or read otherwise by a browser."""
 
 
-class Found(NamedTuple):
-    """What says in which encoding a page is ("mark", "label", "meta", "declaration" or "default"), and the
-    encoding's name."""
+class PageEncoding(NamedTuple):
+    """The encoding that a page is in: its name in the Encoding Standard, and what says it ("mark", "label", "meta",
+    "declaration" or "default")."""
 
-    source: str
     name: str
+    source: str
 
 
 class Encoding:
@@ -136,17 +134,21 @@ class Encoding:
             raise EncodingError(self._name, data, 0, len(data), "it would be written otherwise")
 
 
-def found_in(data: bytes, label: str = "") -> Found:
-    """Returns what says in which encoding a page is: a mark at its front, the label that a server names, or
-    its first 1,024 bytes."""
+def page_encoding(page: bytes, label: str = "") -> PageEncoding:
+    """Returns the encoding that a page in bytes is in, and what says it: a mark at its front, the label that a server
+    names, its first 1,024 bytes, a `meta` of its head, or nothing, which is windows-1252.
+    """
+    if not isinstance(page, bytes):
+        raise TypeError(f"the bytes of a page are expected, not {type(page).__name__}")
     name = "simplecss_html_encoding"
-    answer = library.call(name, data, label.encode("utf-8"), room=64)
-    return Found(*library.output_of(name, answer).decode("ascii").split("\t"))
+    answer = library.call(name, page, library.encode(label), room=64)
+    source, encoding = library.output_of(name, answer).decode("ascii").split("\t")
+    return PageEncoding(encoding, source)
 
 
 def _in_front(data: bytes) -> Set[str]:
     """Returns the encoding that the front of a page names, if it does."""
-    found = found_in(data)
+    found = page_encoding(data)
     return set() if found.source == _DEFAULT else {found.name}
 
 
@@ -170,34 +172,21 @@ def _is_agreed(text: str, data: bytes) -> bool:
     return len(named) == 1
 
 
-def _in_tree(text: str, in_head: bool = False) -> Iterator[Dict[str, str]]:
-    """Yields the attributes of the `meta` elements of a page, or of its head alone."""
+def _in_tree(text: str) -> Iterator[Dict[str, str]]:
+    """Yields the attributes of the `meta` elements of a page."""
     try:
         page = HtmlPage(text, leaves_templates=False)
     except LimitError:
         return
-    names, parents, spaces = page.names(), page.parents(), page.spaces()
-    for index, (name, attributes) in enumerate(zip(names, page.attributes())):
-        is_in_head = parents[index] == _HEAD and spaces[index] == HTML
-        if name == "meta" and (is_in_head or not in_head):
+    for name, attributes in zip(page.names(), page.attributes()):
+        if name == "meta":
             yield attributes
-
-
-def _found(data: bytes, label: str = "") -> Found:
-    """Returns what says in which encoding a page is. A `meta` of its head that is not in its front counts
-    last."""
-    found = found_in(data, label)
-    if found.source == _DEFAULT and b"charset" in data.lower():
-        for attributes in _in_tree(data.decode("latin-1"), True):
-            for name in _in_meta(attributes):
-                return Found("meta", name)
-    return found
 
 
 def decode_page(data: bytes) -> Tuple[str, Encoding]:
     """Returns the text of a page, and what encodes it again. Bytes that are not in the encoding
     that the page names raise `UnicodeDecodeError`, a `ValueError`."""
-    found = _found(data)
+    found = page_encoding(data)
     is_named = found.source != _DEFAULT
     encoding = _CODECS.get(found.name) if is_named else "utf-8"
     if encoding is None:
@@ -217,9 +206,9 @@ def text_of_page(data: bytes, encoding: Optional[str] = None) -> str:
     at the front comes before that, and that before what the page names. A page that names none is in
     UTF-8 if all of it can be, or else in windows-1252. What is not in the encoding is U+FFFD. A label of
     no encoding raises `ValueError`."""
-    if encoding is not None and found_in(b"", encoding).source != _LABEL:
+    if encoding is not None and page_encoding(b"", encoding).source != _LABEL:
         raise ValueError(f"unknown encoding: {encoding!r}")
-    found = _found(data, encoding or "")
+    found = page_encoding(data, encoding or "")
     if found.source == _DEFAULT:
         try:
             return data.decode("utf-8")

@@ -6,7 +6,8 @@ import html
 from pathlib import Path
 from typing import Any, Callable, Dict, Iterable, List, NamedTuple, Optional, Sequence
 
-from ._explaining import Contender, Explanation, Place
+from ._explaining import Contender, Explanation
+from ._placed import Place
 from ._output import printable
 from ._words import words_of
 

@@ -2,11 +2,9 @@
 
 from __future__ import annotations
 
-import functools
 import itertools
+import re
 from typing import (
-    TYPE_CHECKING,
-    Callable,
     Dict,
     Iterator,
     List,
@@ -21,15 +19,15 @@ from . import _library as library
 from ._declaration import Declaration
 from ._device import LAYER
 from ._nested import Places, blocks_of, every_block
+from ._placed import At, Place
 from ._properties import is_inherited
 from ._reading import Condition, Source, Statement
+from ._resolving import ResolvedElements
 from ._selectors import Specificity
 from ._specified import Own
 from ._tree import Element
-from ._winners import AUTHOR, Winning
-
-if TYPE_CHECKING:
-    import array
+from ._winners import AUTHOR, Query, Winning
+from ._words import lower
 
 # By what a declaration loses to the one before it, by the numbers of the library; the first by nothing.
 CRITERIA: Tuple[Optional[str], ...] = (
@@ -40,6 +38,9 @@ CRITERIA: Tuple[Optional[str], ...] = (
     "specificity",
     "order of appearance",
 )
+# What may be a reference `var()`, and what is in each value that rolls back others.
+_REFERENCE = re.compile(r"\\|var\(", re.IGNORECASE)
+_ROLLBACK = "revert"
 # How many numbers the library writes of a declaration.
 _OF_CONTENDER = 3
 # What a layer without a name is called.
@@ -48,17 +49,6 @@ _ANONYMOUS = "(anonymous)"
 PRESENTATION = "presentation"
 # The number of a text, and an offset of its bytes.
 _At = Tuple[int, int]
-
-
-class Place(NamedTuple):
-    """Where a declaration is: `source` is the index of the text among those of its sheet, and `url` that
-    of a linked sheet. Rows and columns begin at 1. One in an attribute has the place of its element's tag.
-    """
-
-    source: Optional[int]
-    url: Optional[str]
-    row: Optional[int]
-    column: Optional[int]
 
 
 class Contender(NamedTuple):
@@ -124,13 +114,12 @@ class Text(NamedTuple):
 
 
 class OnElements(NamedTuple):
-    """What elements have: their own declarations, what wins of the names, and the rules that match; and
-    what returns all that wins, with references replaced."""
+    """What elements have: their own declarations, and the rules on them; and what wins, with references
+    replaced."""
 
     own: Own
-    winners: Sequence[Optional[Declaration]]
-    matching: "Sequence[array.array[int]]"
-    resolve: Callable[[], Sequence[Sequence[Declaration]]]
+    query: Query
+    resolved: ResolvedElements
 
 
 def layer_of(conditions: Sequence[Condition]) -> Optional[str]:
@@ -172,50 +161,53 @@ class Explaining:
         self._winning = winning
         self._texts = texts
         self._found = found
+        self._limit = limit
         self._room = library.Room(limit)
-        self._selectors = winning.texts()
-        self._layers = _layers_at(texts, {(each.sheet, each.start) for each in winning.rules})
+        self._selectors = winning.selectors
+        if winning.layers is None:
+            wanted = {(each.sheet, each.start) for each in winning.rules}
+            winning.layers = _layers_at(texts, wanted)
+        self._layers = winning.layers
 
     def explanation(self, element: Element) -> Explanation:
         """Explains the property on an element, and on the ancestor from which the element has it."""
         found = self._on(element)
         if found.winner is not None or not is_inherited(self._name):
             return found
-        winners = self._found.winners
-        above = next((one for one in _ancestors(element) if winners[one.index]), None)
-        return found if above is None else found._replace(inherited=self._on(above))
+        above = next((one for one in map(self._on, _ancestors(element)) if one.winner), None)
+        return found._replace(inherited=above)
 
     def _on(self, element: Element) -> Explanation:
         """Explains the property on an element."""
         contenders = tuple(self._contenders(element))
         won = next((each for each in contenders if not each.is_rolled_back), None)
-        return Explanation(element, self._name, contenders, won, self._computed(element), None)
+        computed = None if won is None else self._computed(element, won.declaration)
+        return Explanation(element, self._name, contenders, won, computed, None)
 
-    def _computed(self, element: Element) -> Optional[str]:
+    def _computed(self, element: Element, winner: Declaration) -> Optional[str]:
         """Returns the value that wins on an element, with its references replaced, if it is valid."""
-        winner = self._found.winners[element.index]
-        if winner is None or "(" not in winner.value:
-            return None if winner is None else winner.value
-        those = self._resolved[element.index]
+        if not _REFERENCE.search(winner.value):
+            return winner.value
+        those = self._found.resolved.declarations(element.index)
         return next((each.value for each in reversed(those) if each.name == winner.name), None)
 
-    @functools.cached_property
-    def _resolved(self) -> Sequence[Sequence[Declaration]]:
-        """What wins on each element, with references replaced."""
-        return self._found.resolve()
+    def _winner(self, index: int) -> Optional[Declaration]:
+        """Returns the declaration that wins on an element, if one does, where some may be rolled back."""
+        limit = max(self._limit, library.USUAL_ANSWER_LIMIT)
+        return self._found.query.named(self._names, limit, range(index, index + 1))[0]
 
     def _contenders(self, element: Element) -> Iterator[Contender]:
         """Yields the declarations of the names that apply to an element."""
-        index = element.index
-        winner, own = self._found.winners[index], self._found.own.texts_of(index)
-        numbers = self._winning.explained(self._found.matching[index], own, self._names)
+        numbers = self._found.query.explained(self._names, element.index, self._limit)
         self._room.take(len(numbers) // _OF_CONTENDER)
+        rows = zip(*(numbers[at::_OF_CONTENDER] for at in range(_OF_CONTENDER)))
+        found = [(self._contender(element, *row[:2]), CRITERIA[row[2]]) for row in rows]
         # Those before the one that wins are rolled back, and all are if none does.
-        is_rolled_back = True
-        for rule, place, criterion in zip(*(numbers[at::_OF_CONTENDER] for at in range(3))):
-            one = self._contender(element, rule, place)
+        is_rolled_back = bool(found) and _ROLLBACK in lower(found[0][0].value)
+        winner = self._winner(element.index) if is_rolled_back else None
+        for one, criterion in found:
             is_rolled_back = is_rolled_back and one.declaration is not winner
-            yield one._replace(criterion=CRITERIA[criterion], is_rolled_back=is_rolled_back)
+            yield one._replace(criterion=criterion, is_rolled_back=is_rolled_back)
 
     def _contender(self, element: Element, rule: int, place: int) -> Contender:
         """Returns the declaration at a place of what has this number."""
@@ -223,10 +215,10 @@ class Explaining:
             return self._in_no_rule(element, rule == len(self._selectors), place)
         found = self._winning.rules[rule]
         text = self._texts[found.sheet]
-        row, column = text.source.position(text.source.offset(found.declarations.start(place)))
+        at = At(text.source, text.number, text.url, *found.declarations.span(place))
         return Contender(
             declaration=found.declarations.at(place),
-            place=Place(text.number, text.url, row, column),
+            place=at.place(),
             origin=text.origin,
             selector=self._selectors[rule],
             specificity=found.specificity,

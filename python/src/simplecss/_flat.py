@@ -7,7 +7,7 @@ from __future__ import annotations
 
 import functools
 import itertools
-from typing import Iterable, Iterator, List, NamedTuple, Sequence, Tuple, Union
+from typing import Iterable, Iterator, List, NamedTuple, Optional, Sequence, Tuple, Union
 
 from . import _library as library
 from ._found_names import find_names
@@ -64,17 +64,23 @@ def flattened(source: Source, statements: Iterable[Statement]) -> List[Statement
     """Returns statements, and for each style rule with rules in it rule sets that say the same,
     with the style rules around as levels; or the rule itself if that is not clear, or if a browser may
     drop one of the lists of selectors."""
+    found: List[Statement] = []
+    for statement, sets in flat_sets(source, statements):
+        found += sets if sets else (statement,)
+    return found
+
+
+def flat_sets(
+    source: Source, statements: Iterable[Statement]
+) -> Iterator[Tuple[Statement, Optional[List[RuleSet]]]]:
+    """Yields statements, each with the rule sets that say the same if it is a style rule with rules in it, and
+    with `None` if that is not clear, or if a browser may drop one of the lists of selectors."""
     flat = _Sheet(source)
     parts = [(each, flat.sets_of(each)) for each in statements]
-    find_names(one.text for _, sets in parts for each in sets for one in each.selectors)
-    found: List[Statement] = []
+    find_names(one.text for _, sets in parts for each in sets or () for one in each.selectors)
     for statement, sets in parts:
-        are_known = all(traits_of(one.text).is_known for each in sets for one in each.selectors)
-        if sets and are_known:
-            found += sets
-        else:
-            found.append(statement)
-    return found
+        every = (one.text for each in sets or () for one in each.selectors)
+        yield statement, sets if all(traits_of(each).is_known for each in every) else None
 
 
 class _Sheet:
@@ -87,14 +93,17 @@ class _Sheet:
     def _contents(self) -> Contents:
         return Contents(self._source)
 
-    def sets_of(self, statement: Statement) -> List[RuleSet]:
-        """Returns the rule sets that a style rule with rules in it is, if that is clear."""
-        if isinstance(statement, RuleSet) and statement.is_closed and has_rules(statement.items):
-            try:
-                return _Flat(self._source, self._contents, statement).sets()
-            except (_Unclear, library.LimitError):
-                pass
-        return []
+    def sets_of(self, statement: Statement) -> Optional[List[RuleSet]]:
+        """Returns the rule sets that a style rule with rules in it is, if that is clear, and none of what has no
+        rules in it."""
+        if not isinstance(statement, RuleSet) or not has_rules(statement.items):
+            return []
+        if not statement.is_closed:
+            return None
+        try:
+            return _Flat(self._source, self._contents, statement).sets()
+        except (_Unclear, library.LimitError):
+            return None
 
 
 class _Flat:

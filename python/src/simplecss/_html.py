@@ -28,7 +28,7 @@ HTML, SVG, MATH = 1, 2, 3
 # What is read of a page where scripts run, and without what is in templates.
 _HAS_SCRIPTS, _LEAVES_TEMPLATES = 1, 2
 # How many numbers an attribute, an element and another node have.
-_OF_ATTRIBUTE, _OF_ELEMENT, _OF_OTHER = 5, 6, 5
+OF_ATTRIBUTE, OF_ELEMENT, OF_OTHER = 5, 6, 5
 # The kinds of other nodes that are texts.
 _TEXT_KINDS = (1, 2)
 # The bytes of UTF-8 that begin no character, and how many bytes have their characters counted together.
@@ -39,6 +39,9 @@ _ATTRIBUTE = pattern(
     r"""(?:[\t\n\f\r ]*=[\t\n\f\r ]*("[^"]*"|'[^']*'|[^\t\n\f\r >"'][^\t\n\f\r >]*|(?=>)))?"""
 )
 _TAG_NAME = pattern(r"[A-Za-z][^\t\n\f\r />]*")
+
+# What a style sheet of a page is, added up, as the library numbers it.
+SHEET_LINK, ALTERNATIVE, IN_USE = 1, 2, 4
 
 Span = Tuple[int, int]
 Numbers = Sequence[int]
@@ -149,18 +152,18 @@ class HtmlPage:
         self,
         text: str,
         *,
-        is_part: bool = False,
+        context: Optional[str] = None,
         has_scripts: bool = False,
         leaves_templates: bool = True,
     ) -> None:
-        """Reads a page, or the content of a `body`. Where scripts run, what is in a `noscript` is text. A page
-        whose elements are nested in a way that takes time or elements out of proportion raises
-        `LimitError`."""
+        """Reads a page, or the content of the element of HTML with this start tag, without `<` and `>`. Where
+        scripts run, what is in a `noscript` is text. A page whose elements are nested in a way that takes time or
+        elements out of proportion raises `LimitError`."""
         self.text = text
         self._data = library.encode(text)
         flags = _HAS_SCRIPTS * has_scripts + _LEAVES_TEMPLATES * leaves_templates
-        context = (HTML, b"body") if is_part else (0, b"")
-        self._numbers, self._data_of_strings = library.page_of(self._data, *context, flags)
+        within = (0, b"") if context is None else (HTML, library.encode(context))
+        self._numbers, self._data_of_strings = library.page_of(self._data, *within, flags)
         tags = self._numbers[0]
         self._counts = [tags, *self._numbers[1 + 2 * tags : 5 + 2 * tags]]
         is_quirky, is_doubtful, head_end = self._numbers[5 + 2 * tags : 8 + 2 * tags]
@@ -168,7 +171,7 @@ class HtmlPage:
         # Whether browsers differ in where an element ends, or in what a NUL is.
         self.is_doubtful = bool(is_doubtful) or "\0" in text
         # Where the head ends: a tag that is put there is of the head.
-        self.head_end = self._place(head_end - 1) if head_end else len(text)
+        self.head_end = self.place(head_end - 1) if head_end else len(text)
 
     def __len__(self) -> int:
         """Returns how many elements there are."""
@@ -183,22 +186,22 @@ class HtmlPage:
         tags, attributes, elements, others, merged = self._counts
         sizes = (
             tags,
-            _OF_ATTRIBUTE * attributes,
-            _OF_ELEMENT * elements,
-            _OF_OTHER * others,
+            OF_ATTRIBUTE * attributes,
+            OF_ELEMENT * elements,
+            OF_OTHER * others,
             2 * merged,
         )
         return 8 + 2 * tags + sum(sizes[:part])
 
-    def _column(self, part: int, width: int, at: int) -> "array.array[int]":
+    def column(self, part: int, width: int, at: int) -> "array.array[int]":
         """Returns a column of a part whose rows have so many numbers."""
         start, end = self._start(part), self._start(part + 1)
         return self._numbers[start + at : end : width]
 
-    def _of_elements(self, at: int) -> "array.array[int]":
-        return self._column(2, _OF_ELEMENT, at)
+    def of_elements(self, at: int) -> "array.array[int]":
+        return self.column(2, OF_ELEMENT, at)
 
-    def _strings_of(self, first: int, count: int) -> Strings:
+    def strings_of(self, first: int, count: int) -> Strings:
         """Returns so many strings."""
         start = self._start(5) + first
         ends = self._numbers[start : start + count]
@@ -210,7 +213,7 @@ class HtmlPage:
         """Where characters are, if not all are of ASCII."""
         return None if len(self._data) == len(self.text) else _Characters(self._data)
 
-    def _place(self, offset: int) -> int:
+    def place(self, offset: int) -> int:
         return offset if self._characters is None else self._characters(offset)
 
     def _places(self, offsets: Iterable[int]) -> List[int]:
@@ -229,7 +232,7 @@ class HtmlPage:
         """Returns the attributes of each tag, of which tags with equal ones may have the same. The last are
         those of none."""
         tags, count = self._counts[:2]
-        strings = self._strings_of(0, 2 * count).all()
+        strings = self.strings_of(0, 2 * count).all()
         keys, values = strings[::2], strings[1::2]
         found: List[Dict[str, str]] = []
         made: Dict[Tuple[str, ...], Dict[str, str]] = {}
@@ -248,12 +251,12 @@ class HtmlPage:
 
     def names(self) -> List[str]:
         """Returns the names of the elements."""
-        return self._strings_of(2 * self._counts[1], len(self)).all()
+        return self.strings_of(2 * self._counts[1], len(self)).all()
 
     def attributes(self) -> List[Dict[str, str]]:
         """Returns the attributes of the elements."""
         of_tags = self._tag_attributes()
-        found = [of_tags[tag - 1] for tag in self._of_elements(0)]
+        found = [of_tags[tag - 1] for tag in self.of_elements(0)]
         start, end = self._start(4), self._start(5)
         own: Dict[int, Dict[str, str]] = {}
         for element, tag in zip(self._numbers[start:end:2], self._numbers[start + 1 : end : 2]):
@@ -265,37 +268,84 @@ class HtmlPage:
 
     def parents(self) -> List[int]:
         """Returns the indices of the elements' parents."""
-        return [number - 1 for number in self._of_elements(1)]
+        return [number - 1 for number in self.of_elements(1)]
 
     def depths(self) -> List[int]:
         """Returns how many ancestors each element has."""
-        return list(self._of_elements(2))
+        return list(self.of_elements(2))
 
     def spaces(self) -> bytearray:
         """Returns the numbers of the elements' namespaces."""
-        return bytearray(iter(self._of_elements(3)))
+        return bytearray(iter(self.of_elements(3)))
 
     def tag_numbers(self) -> List[int]:
         """Returns the index of each element's start tag among those of the page, or -1."""
-        return [number - 1 for number in self._of_elements(0)]
+        return [number - 1 for number in self.of_elements(0)]
 
     def tags(self) -> List[Span]:
         """Returns where the elements' start tags begin and end."""
         starts, ends = self._tag_places
-        return [(starts[tag - 1], ends[tag - 1]) for tag in self._of_elements(0)]
+        return [(starts[tag - 1], ends[tag - 1]) for tag in self.of_elements(0)]
 
     def ends(self) -> List[Span]:
         """Returns where the elements' end tags begin and end, or twice where an element ends without one."""
-        starts, ends = self._places(self._of_elements(4)), self._places(self._of_elements(5))
+        starts, ends = self._places(self.of_elements(4)), self._places(self.of_elements(5))
         return list(zip(starts, ends))
+
+    # ---- places of attributes
+
+    @functools.cached_property
+    def attribute_strings(self) -> Strings:
+        """The names and the values of the attributes of all tags, the one after the other."""
+        return self.strings_of(0, 2 * self._counts[1])
+
+    @functools.cached_property
+    def first_attributes(self) -> List[int]:
+        """The index of the first attribute of each tag, and of the end of the last tag's."""
+        start = self._start(0)
+        return [0, *itertools.accumulate(self._numbers[start : start + self._counts[0]])]
+
+    @functools.cached_property
+    def _merged(self) -> Dict[int, List[int]]:
+        """The further tags of elements whose attributes are in several, by the elements' indices."""
+        start, end = self._start(4), self._start(5)
+        found: Dict[int, List[int]] = {}
+        for element, tag in zip(self._numbers[start:end:2], self._numbers[start + 1 : end : 2]):
+            found.setdefault(element - 1, []).append(tag)
+        return found
+
+    def attribute_places(self, index: int) -> Dict[str, Span]:
+        """Returns where the attributes of an element are, each from its name to the end of its value."""
+        tag = self._numbers[self._start(2) + OF_ELEMENT * index]
+        found: Dict[str, Span] = {}
+        for number in (tag, *self._merged.get(index, ())) if tag else self._merged.get(index, ()):
+            for at in range(*self.first_attributes[number - 1 : number + 1]):
+                row = self._start(1) + OF_ATTRIBUTE * at
+                span = self.place(self._numbers[row]), self.place(self._numbers[row + 4])
+                found.setdefault(self.attribute_strings[2 * at], span)
+        return found
+
+    # ---- style sheets
+
+    def sheets(self) -> Tuple[int, Dict[int, int]]:
+        """Returns the index of the `base` whose url counts, or -1, and of each element that is a style sheet, or a
+        link to one, what it is."""
+        strings = 2 * self._counts[1] + len(self) + self._counts[3]
+        start = self._start(5) + strings
+        base, count = self._numbers[start : start + 2]
+        rows = self._numbers[start + 2 : start + 2 + 2 * count]
+        kinds = dict(zip(rows[::2], rows[1::2]))
+        elements = [(index, tag) for index, tag in enumerate(self.of_elements(0)) if tag]
+        at_base = next((index for index, tag in elements if tag == base), -1)
+        return at_base, {index: kinds[tag] for index, tag in elements if tag in kinds}
 
     # ---- texts
 
     def texts(self) -> Tuple[Numbers, Numbers, Strings]:
         """Returns of the texts that are not empty how many elements begin before each, the index of the element
         that it is in, and what it says."""
-        kinds, begun, owners = (self._column(3, _OF_OTHER, at) for at in range(3))
-        said = self._strings_of(2 * self._counts[1] + len(self), self._counts[3])
+        kinds, begun, owners = (self.column(3, OF_OTHER, at) for at in range(3))
+        said = self.strings_of(2 * self._counts[1] + len(self), self._counts[3])
         sizes = zip(kinds, said.sizes())
         kept = [at for at, (kind, size) in enumerate(sizes) if kind in _TEXT_KINDS and size]
         return ([begun[at] for at in kept], [owners[at] - 1 for at in kept], said.only(kept))

@@ -312,7 +312,7 @@ class _PageInliner:
         if content.href is None:
             return self.reader.read(self.page.sheet_of(content), None)
         url, shelf = content.href, self.reader.shelf
-        if content.link is not None and not content.link.is_last:
+        if content.element < self.page.elements.base:
             url = shelf.before_base(url)
         css = shelf.read(url) if url else None
         return None if css is None else self.reader.read(css, url)

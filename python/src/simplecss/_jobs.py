@@ -4,22 +4,27 @@ from __future__ import annotations
 
 import argparse
 import codecs
+import functools
 import os
 import sys
 from pathlib import Path
-from typing import Any, Iterator, List, NamedTuple, Optional
+from typing import Any, Dict, Iterator, List, NamedTuple, Optional
 
 from . import _explained, _lint
-from ._clean import Cleaned, clean, clean_style, is_clean, is_clean_style
+from ._bundling import bundled, prefixed, rebase_urls, scoped
+from ._clean import Cleaned, Policy, clean, clean_style, is_clean, is_clean_style
 from ._compare import compare
 from ._declaration import Declaration
-from ._device import Device
+from ._device import Device, Media
 from ._elements import TreeError
-from ._explaining import Explanation, Place
+from ._editing import Edit
+from ._explaining import Explanation
+from ._placed import Place
 from ._imports import LOSES
 from ._inline import inline
 from ._library import InternalError, LibraryError, LimitError, Room, most_written
 from ._linked import Name, Shelf, Unread, sheets_of
+from ._maps import data_url
 from ._minify import prettify, short_text
 from ._output import json_line, printable, printable_lines
 from ._selectors import SelectorError
@@ -30,6 +35,9 @@ from ._words import words_of
 from ._writing import write_file
 from ._xml import is_xml
 from ._encoding import EncodingError, decode_page, text_of_page
+
+# The fields of a device that are its size.
+_SIZE = frozenset(("width", "height"))
 
 DONE = 0
 REFUSED = 1
@@ -296,27 +304,63 @@ class Compare(Job):
     """Writes the longhands that two style sheets set differently on the elements of a page."""
 
     def _do(self, name: str) -> Outcome:
-        text = self._page(name)
+        text, words = self._page(name), self.words
         tree = self._tree(name, text)
-        old, new = (sheet_of_texts((read(each),)) for each in (self.words.old, self.words.new))
+        old, new = map(_sheet_in, (words.old, words.new))
         room = Room(most_written(len(text)), "characters")
-        found = compare(old, new, tree, media=self._device())
-        for element, longhand, *both in found:
-            room.take(sum(len(each.value) for each in both if each is not None))
-            if self.words.json:
-                values = [None if each is None else each._asdict() for each in both]
-                row = {"file": name, "element": element.index, "name": longhand}
-                self._write(json_line({**row, "old": values[0], "new": values[1]}))
+        found = compare(old, new, tree, media=self._device(), all_conditions=words.all_conditions)
+        for each in found:
+            both = each.old, each.new
+            room.take(sum(len(one.value) for one in both if one is not None))
+            files = zip(both, (words.old, words.new))
+            if words.json:
+                row = {"file": name, "element": each.element.index, "name": each.name}
+                values = [None if one is None else _placed_json(one, file) for one, file in files]
+                row.update(zip(("old", "new", "device"), (*values, _unusual(each.device))))
+                self._write(json_line(row))
                 continue
-            before, after = map(_shown_declaration, both)
-            shown = printable(f"{element} {longhand}: {before} -> {after}")
-            self._write(f"{self._position(name, element)}: {shown}\n")
+            before, after = (_shown_declaration(*one) for one in files)
+            on = f" ({_shown_device(each.device)})" if words.all_conditions else ""
+            shown = printable(f"{each.element} {each.name}: {before} -> {after}{on}")
+            self._write(f"{self._position(name, each.element)}: {shown}\n")
         return self._outcome(name, found=len(found))
 
 
-def _shown_declaration(declaration: Optional[Declaration]) -> str:
-    """Returns a declaration as it is shown."""
-    return "nothing" if declaration is None else str(declaration)
+@functools.lru_cache(maxsize=2)
+def _sheet_in(file: str) -> StyleSheet:
+    """Returns the sheet of a file, which is read once for all pages."""
+    return sheet_of_texts((read(file),))
+
+
+def _placed_json(declaration: Declaration, file: str) -> Dict[str, object]:
+    """Returns a declaration as JSON has it, with its place if it is in a file."""
+    place = declaration.place
+    where = None if place is None else {"file": file, "row": place.row, "column": place.column}
+    return {**declaration._asdict(), "place": where}
+
+
+def _shown_declaration(declaration: Optional[Declaration], file: str) -> str:
+    """Returns a declaration as it is shown, with its place in a file."""
+    if declaration is None:
+        return "nothing"
+    place = declaration.place
+    where = "style attribute" if place is None else f"{file}:{place.row}:{place.column}"
+    return f"{declaration} ({where})"
+
+
+def _unusual(device: Media) -> Dict[str, object]:
+    """Returns the fields of a device that differ from those of the usual one."""
+    usual = Device()._asdict()
+    fields = device._asdict() if isinstance(device, Device) else {}
+    return {name: value for name, value in fields.items() if value != usual[name]}
+
+
+def _shown_device(device: Media) -> str:
+    """Returns a device as it is shown: by its size, and what differs from the usual one."""
+    assert isinstance(device, Device)
+    others = {name: value for name, value in _unusual(device).items() if name not in _SIZE}
+    words = (f"{name.replace('_', '-')}: {str(value).lower()}" for name, value in others.items())
+    return ", ".join((f"{device.width} x {device.height}", *words))
 
 
 class Inline(Job):
@@ -406,7 +450,9 @@ class Lint(Job):
 
     def _fixed(self, name: str, text: str) -> str:
         """Corrects the sheet of a file in place, and returns it. That of standard input is written."""
-        result = _lint.fixed(text)
+        result, count = _lint.corrected(text)
+        if count:
+            self._messages.append(f"{name}: {count} corrected")
         if result != text and name != INPUT:
             has_mark = read_bytes(name).startswith(codecs.BOM_UTF8)
             try:
@@ -436,6 +482,40 @@ class Prettify(Job):
         return self._outcome(name)
 
 
+class EditSheet(Job):
+    """Writes a sheet with edits."""
+
+    def _do(self, name: str) -> Outcome:
+        text, words = read(name), self.words
+        try:
+            edit = self._edit(name, text)
+            css = edit.text
+        except UnicodeEncodeError:
+            raise
+        except ValueError as error:
+            raise Failure(f"{name}: {error}", REFUSED) from None
+        for each in edit.left:
+            self._messages.append(f"{name}:{each.row}:{each.column}: left as it is: {each.reason}")
+        if words.map:
+            css += f"\n/*# sourceMappingURL={data_url(edit.source_map())} */"
+        self._write(json_line({"file": name, "css": css}) if words.json else self._shown(css))
+        return self._outcome(name)
+
+    def _edit(self, name: str, text: str) -> Edit:
+        """Returns the edit that the words ask for."""
+        words = self.words
+        edit = Edit(text, name=name)
+        if words.bundle:
+            edit = bundled(text, name=name, at=self._place(name), folder=self._folder(name))
+        if words.flatten:
+            edit.flatten()
+        if words.base_url is not None:
+            rebase_urls(edit, words.base_url)
+        if words.prefix is not None:
+            prefixed(edit, words.prefix)
+        return edit if words.scope is None else scoped(edit, words.scope)
+
+
 class Clean(Job):
     """Writes what a policy allows of a sheet or a style attribute, or says whether it is clean."""
 
@@ -462,14 +542,23 @@ class Clean(Job):
     def _cleaned(self, text: str) -> Cleaned:
         words = self.words
         if words.style:
-            return clean_style(text, policy=words.policy)
-        return clean(text, scope=words.scope, policy=words.policy)
+            return clean_style(text, policy=self._policy())
+        return clean(text, scope=words.scope, policy=self._policy())
 
     def _is_clean(self, text: str) -> bool:
         words = self.words
         if words.style:
-            return is_clean_style(text, policy=words.policy)
-        return is_clean(text, scope=words.scope, policy=words.policy)
+            return is_clean_style(text, policy=self._policy())
+        return is_clean(text, scope=words.scope, policy=self._policy())
+
+    def _policy(self) -> Policy:
+        """Returns the policy that the words name, with what they change of it."""
+        words = self.words
+        limits = dict(each.partition("=")[::2] for each in words.limit)
+        media = [f"@{each}" for each in words.at_rule]
+        return Policy.of(words.policy).changed(
+            add=words.add, remove=words.remove, media=media, limits=limits, prefix=words.prefix
+        )
 
 
 class Linked(Job):

@@ -1,4 +1,4 @@
-"""Lists of selectors, and trees, that the library keeps."""
+"""Lists of selectors, style sheets, trees, and trees with style sheets, that the library keeps."""
 
 from __future__ import annotations
 
@@ -15,6 +15,12 @@ from . import _library as library
 # How many numbers the library writes of a selector of a list.
 _OF_LISTED = 10
 _NO_NUMBER = array.array(library.SIZE, (0,))
+# What a query is asked: what wins, what wins of some properties, which rules match, what applies of a property, and the
+# rules.
+WINNERS, WINNERS_NAMED, MATCHES, EXPLAINED, RULES = range(5)
+NO_NAMES = library.AskedArrays([])
+# What a sheet is asked: its statements and what is in its style rules, in numbers; and its imports, as a text.
+STATEMENTS, CONTENTS, IMPORTS = 0, 1, 2
 
 
 class _Handle(ctypes.Structure):
@@ -73,6 +79,43 @@ class KeptList:
         return library.output_of("simplecss_list_text", answer)
 
 
+class KeptSheet:
+    """A style sheet, of which the library has a copy until the end of a `with`. It is for one thread."""
+
+    def __init__(self, data: bytes) -> None:
+        self._size, self._handle = len(data), _Handle()
+        name = "simplecss_sheet_new"
+        library.expect_done(name, library.status_of(name, data, self._handle))
+
+    def __enter__(self) -> KeptSheet:
+        return self
+
+    def __exit__(
+        self,
+        kind: Optional[Type[BaseException]],
+        error: Optional[BaseException],
+        trace: Optional[TracebackType],
+    ) -> None:
+        library.run("simplecss_sheet_free", self._handle)
+
+    def statements(self) -> "array.array[int]":
+        """Returns the numbers of the statements. Too many for the length of the sheet raise `LimitError`."""
+        return self._numbers(STATEMENTS, library.most_numbers(self._size), 1024 + self._size)
+
+    def contents(self) -> "array.array[int]":
+        """Returns the numbers of what is in the style rules."""
+        return self._numbers(CONTENTS, library.NO_LIMIT, 1024 + 2 * self._size)
+
+    def text(self, asked: int) -> bytes:
+        """Returns the text of what is asked by a number: the imports, or the sheet in a layout."""
+        name, room = "simplecss_sheet_text", 256 + 2 * self._size
+        return library.output_of(name, library.call(name, self._handle, asked, room=room))
+
+    def _numbers(self, asked: int, most: int, room: int) -> "array.array[int]":
+        name = "simplecss_sheet_numbers"
+        return library.numbers_of(name, self._handle, asked, room=room, most=most)
+
+
 class KeptPage:
     """A tree that is asked which of its elements selectors match, whose names compare as the grammar of a number says.
 
@@ -113,3 +156,61 @@ class KeptPage:
             return None
         library.expect_done(name, status)
         return numbers[: length.value]
+
+
+class KeptQuery:
+    """A tree with style sheets and elements' own declarations, whose names compare as the grammar of a number says.
+
+    The library has copies of all until the last reference to this. Threads may share it: one asks at a time. Sheets
+    with more declarations than `limit`, or with too many layers, raise `LimitError`.
+    """
+
+    def __init__(
+        self,
+        tree: library.TreeArrays,
+        number: int,
+        sheets: library.SheetArrays,
+        limit: int,
+        own: library.OwnArrays,
+    ) -> None:
+        handle = _Handle()
+        self._handle = handle
+        self._lock = threading.RLock()
+        self._process = os.getpid()
+        weakref.finalize(self, library.run, "simplecss_query_free", handle).atexit = False
+        name, words = "simplecss_query_new", (tree, number, sheets, limit, own)
+        status = library.status_of(name, *words, handle, library.FaultOfTree())
+        library.expect_within(status)
+        library.expect_done(name, status)
+
+    @property
+    def is_left(self) -> bool:
+        """Whether a fork left it behind, perhaps while another thread asked it."""
+        return self._process != os.getpid()
+
+    def numbers(
+        self,
+        asked: int,
+        start: int,
+        end: int,
+        most: int = library.NO_LIMIT,
+        *,
+        names: library.AskedArrays = NO_NAMES,
+        room: int,
+    ) -> "array.array[int]":
+        """Returns the numbers of what is asked by a number, of the elements from an index up to another."""
+        name, words = "simplecss_query_numbers", (self._handle, asked, names, start, end)
+        with self._lock:
+            return library.numbers_of(name, *words, room=room, most=most)
+
+    def texts(self, most: int, room: int) -> bytes:
+        """Returns the texts of the selectors of the rules, one after another. More bytes raise `LimitError`."""
+        name = "simplecss_query_text"
+        with self._lock:
+            answer = library.call(name, self._handle, room=room, most=most)
+        return library.output_of(name, answer)
+
+
+def sheets_query(sheets: library.SheetArrays, limit: int) -> KeptQuery:
+    """Returns what the library keeps of sheets on no elements."""
+    return KeptQuery(library.NO_TREE, 0, sheets, limit, library.OwnArrays([]))

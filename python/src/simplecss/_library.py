@@ -12,7 +12,7 @@ import sys
 from typing import Any, Iterable, Iterator, List, NamedTuple, Optional, Sequence, Tuple
 
 # That of the library, which `include/simplecss.h` states.
-__version__ = "0.2.0"
+__version__ = "0.3.0"
 
 DONE = 0
 REFUSED = 1
@@ -280,6 +280,10 @@ class _Policy(ctypes.Structure):
         ("functions", ctypes.c_size_t),
         ("strings", ctypes.c_size_t),
         ("pseudos", ctypes.c_size_t),
+        ("urls", ctypes.c_size_t),
+        ("named", ctypes.c_size_t),
+        ("words", ctypes.c_size_t),
+        ("limits", ctypes.c_size_t),
         ("important", ctypes.c_size_t),
         ("itself", ctypes.c_size_t),
         ("longest", ctypes.c_size_t),
@@ -287,19 +291,23 @@ class _Policy(ctypes.Structure):
 
 
 class PolicyArrays:
-    """A scope and the lists of a policy, which a call takes as a structure."""
+    """The texts of a policy, which a call takes as a structure."""
 
-    def __init__(self, scope: bytes, lists: Sequence[Sequence[bytes]], *numbers: int) -> None:
-        """Takes five lists of names, of properties, functions, properties with strings, pseudo-classes
-        and words of media queries, and the numbers after how many there are."""
-        names = [scope, *itertools.chain.from_iterable(lists)]
+    def __init__(
+        self, heads: Sequence[bytes], lists: Sequence[Sequence[bytes]], *numbers: int
+    ) -> None:
+        """Takes a scope and a prefix, eleven lists, of properties, functions, properties with strings,
+        pseudo-classes, urls, their answers, properties whose words are names, words that are none, properties
+        with limits, these limits and words of media queries, and the numbers after how many there are.
+        """
+        names = [*heads, *itertools.chain.from_iterable(lists)]
         ends, joined = ends_of(map(len, names)), b"".join(names)
         self.structure = _Policy(
             joined,
             len(joined),
             pointer_to(ends),
             len(ends),
-            *map(len, lists[:4]),
+            *map(len, (*lists[:5], *lists[6:9])),
             *numbers,
         )
 
@@ -531,15 +539,21 @@ def call(
             break
         room = length.value
     _expect_memory(name, status)
-    if status == TOO_MANY_LAYERS:
-        raise LimitError("the sheets have more than 1,024 layers")
-    if status == TOO_MANY_DECLARATIONS:
-        what = "the rules would hold more declarations than the limit"
-        unit = "bytes" if width == 1 else "numbers"
-        raise LimitError(what if most is None else f"the answer would have more than {most} {unit}")
+    unit = "bytes" if width == 1 else "numbers"
+    expect_within(
+        status, None if most is None else f"the answer would have more than {most} {unit}"
+    )
     fault = TreeFault(found.fault, found.element) if status == TREE_FAULT else None
     output = ctypes.string_at(buffer, length.value * width) if status == DONE else b""
     return Answer(status, output, fault)
+
+
+def expect_within(status: int, longer: Optional[str] = None) -> None:
+    """Raises `LimitError` if style sheets are beyond a limit, or an answer is, as `longer` says."""
+    if status == TOO_MANY_LAYERS:
+        raise LimitError("the sheets have more than 1,024 layers")
+    if status == TOO_MANY_DECLARATIONS:
+        raise LimitError(longer or "the rules would hold more declarations than the limit")
 
 
 def expect_done(name: str, status: int) -> None:
@@ -552,6 +566,24 @@ def output_of(name: str, answer: Answer) -> bytes:
     """Returns what a call wrote, which had no reason to fail."""
     expect_done(name, answer.status)
     return answer.output
+
+
+class NotWellFormed(ValueError):
+    """A text is not an XML document: the number of the reason, and the offset of what is wrong."""
+
+    def __init__(self, reason: int, offset: int) -> None:
+        super().__init__(reason, offset)
+        self.reason = reason
+        self.offset = offset
+
+
+# What says that a text is XML.
+IS_XML = 4
+
+
+def document_of(text: bytes) -> Tuple["array.array[int]", bytes]:
+    """Returns the numbers and the strings of an XML document. One that is not well-formed raises `NotWellFormed`."""
+    return page_of(text, 0, b"", IS_XML)
 
 
 def page_of(
@@ -581,8 +613,12 @@ def page_of(
         raise MemoryError(name)
     if status == TOO_MANY_DECLARATIONS:
         raise LimitError(
-            "elements are nested in a way that takes time or elements out of proportion"
+            "more than 4,096 namespaces, 1,000 in scope, or one of more than 1,000 bytes"
+            if flags == IS_XML
+            else "elements are nested in a way that takes time or elements out of proportion"
         )
+    if status == REFUSED and flags == IS_XML:
+        raise NotWellFormed(size.value, count.value)
     expect_done(name, status)
     return numbers[: count.value], ctypes.string_at(strings, size.value)
 
@@ -609,3 +645,24 @@ def numbers_in(output: bytes) -> "array.array[int]":
     found = sizes(())
     found.frombytes(output)
     return found
+
+
+# A tree without elements.
+NO_TREE = TreeArrays((), ())
+# What is asked by the grammar of the Rust crate: the printed sheet of texts, its rules, what is skipped of a text,
+# which rules match each element, what wins on each, and which elements a list of selectors matches.
+PORT_SHEET, PORT_RULES, PORT_SKIPPED, PORT_MATCHES, PORT_STYLES, PORT_SELECTED = range(6)
+
+
+def port(
+    asked: int,
+    texts: Sequence[bytes],
+    limit: int = NO_LIMIT,
+    tree: TreeArrays = NO_TREE,
+    *,
+    room: int,
+    most: int = NO_LIMIT,
+) -> Answer:
+    """Asks the library by the grammar of the Rust crate, of texts and of the elements of a tree."""
+    words = b"".join(texts), ends_of(map(len, texts)), limit, asked, tree
+    return call("simplecss_port", *words, room=room, with_fault=True, most=most)

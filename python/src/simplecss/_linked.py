@@ -20,6 +20,8 @@ from typing import (
 
 from . import _library as library
 from ._elements import Elements
+from ._html import IN_USE
+from ._kept import IMPORTS, KeptSheet
 from ._lines import Lines
 from ._device import LAYER
 from ._reading import (
@@ -132,12 +134,9 @@ class Shelf:
         self.layers = itertools.count(1)
 
     def take_base(self, elements: Elements) -> None:
-        """Takes what the first `base` of a page says."""
-        for name, attributes in zip(elements.names, elements.plain):
-            if name == "base" and "href" in attributes:
-                href = attributes["href"].strip(BLANKS)
-                self._base = joined(self._base, href) if href else self._base
-                return
+        """Takes what the `base` of a page says, if it has one."""
+        href = elements.plain[elements.base]["href"].strip(BLANKS) if elements.base >= 0 else ""
+        self._base = joined(self._base, href) if href else self._base
 
     def before_base(self, url: str) -> str:
         """Returns a url that a page names before its `base`, which is not taken from that."""
@@ -295,8 +294,8 @@ def imports_in(css: str) -> List[Import]:
     data = library.encode(css)
     if b"@" not in data:
         return []
-    answer = library.call("simplecss_imports", data, room=256 + 2 * len(data))
-    lines = Lines(library.output_of("simplecss_imports", answer))
+    with KeptSheet(data) as sheet:
+        lines = Lines(sheet.text(IMPORTS))
     found: List[Import] = []
     while lines.are_left():
         (
@@ -352,14 +351,18 @@ def _is_sheet(elements: Elements, index: int) -> bool:
     """Whether an element is a style sheet or a link to one."""
     name, attributes = elements.names[index], elements.plain[index]
     if name == "link":
-        return is_sheet_link(attributes) and index not in elements.drawn
+        has_url = bool(attributes.get("href", "").strip(BLANKS))
+        return has_url and is_sheet_link(attributes) and index not in elements.drawn
     return name == "style" and _is_style(attributes)
 
 
 def in_use(elements: Elements) -> List[int]:
     """Returns the elements `style` and `link` whose sheets are in use (CSSOM, "add a CSS style
-    sheet"): those without a title, and those of the first title of one that is no alternate.
+    sheet"): those without a title, and those of the first title of one that is no alternate. Of a page in
+    HTML the library says it.
     """
+    if elements.page_sheets is not None:
+        return [index for index, kind in elements.page_sheets.items() if kind & IN_USE]
     found = [
         (index, elements.plain[index].get("title", ""))
         for index, name in enumerate(elements.names)
@@ -420,7 +423,7 @@ def sheets_of(elements: Elements, shelf: Shelf) -> Iterator[PageSheet]:
         url = attributes.get("href", "").strip(BLANKS) if elements.names[index] == "link" else None
         css = elements.own_text_of(index) if url is None else None
         if url:
-            css = shelf.read(url)
+            css = shelf.read(shelf.before_base(url) if index < elements.base else url)
         if css is not None:
             yield from _with_imports(css, url, around_of(attributes.get("media", "")), shelf, ())
     yield from _sheets_of_links(links_in_use(elements, True), shelf)

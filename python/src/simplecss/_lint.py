@@ -22,7 +22,6 @@ from typing import (
 from html import unescape
 from xml.sax.saxutils import escape, quoteattr
 
-from . import _library as library
 from ._given import expect_css
 from ._html import attributes_of
 from ._library import __version__, expect_text
@@ -32,6 +31,7 @@ from ._page import EditedPage
 from ._reading import Source
 from ._selectors import MODERN, PORT, grammar_of
 from ._sheet import sheet_of_texts
+from ._taken import ATTRIBUTE, lines_of
 from ._tokens import tokens
 from ._words import lower, words_of
 from ._xml import is_xml
@@ -104,9 +104,8 @@ class SheetText(NamedTuple):
         return text.startswith(self.css, self.at)
 
 
-# What the library is asked for: what is unsupported, a style attribute, what the kinds are, and
-# what is known of values.
-_ALL, _ATTRIBUTE, _KINDS, _VALUES = 1, 2, 4, 8
+# What the library is asked for: what is unsupported, and what the kinds are.
+_ALL, _KINDS = 1, 4
 
 
 class _Report(NamedTuple):
@@ -121,31 +120,11 @@ class _Report(NamedTuple):
     edit: Optional[Tuple[int, int, str]] = None
 
 
-def takes_value(name: str, value: str) -> Optional[bool]:
-    """Returns whether a property takes a value, which has no `!important`: `True` if the standards
-    and browsers take it, and `False` if none of them does. What is not known is `None`: of other
-    properties, of a value with a function, a bracket or a vendor's prefix, and of one of several
-    lines."""
-    expect_text(name)
-    expect_text(value)
-    if "\n" in name + value or ":" in name:
-        return None
-    [[found]] = _lines(Source(f"{name}:{value}").data, _VALUES)
-    return {"valid": True, "invalid": False}.get(found)
-
-
-def _lines(data: bytes, asked: int) -> List[List[str]]:
-    """Returns the fields of the lines that the library writes."""
-    answer = library.call("simplecss_lint", data, asked, room=1024 + len(data))
-    written = library.output_of("simplecss_lint", answer).decode("utf-8")
-    return [line.split("\t") for line in written.split("\n")[:-1]]
-
-
 def _reported(part: SheetText, shows_all: bool) -> Iterator[_Report]:
     """Yields what is reported by the modern grammar."""
     source = Source(part.css)
-    asked = _ALL * shows_all + _ATTRIBUTE * part.is_attribute
-    for reason, start, end, hint, *edit in _lines(source.data, asked):
+    asked = _ALL * shows_all + ATTRIBUTE * part.is_attribute
+    for reason, start, end, hint, *edit in lines_of(source.data, asked):
         first, last = source.offset(int(start)), source.offset(int(end))
         right = None
         if len(edit) == 3:
@@ -167,7 +146,7 @@ class Explanation(NamedTuple):
 @functools.lru_cache(maxsize=None)
 def explained() -> Dict[str, Explanation]:
     """Returns what the kinds are, by their reasons. The last ones are reported if asked for."""
-    rows = (Explanation(*fields) for fields in _lines(b"", _KINDS))
+    rows = (Explanation(*fields) for fields in lines_of(b"", _KINDS))
     return {each.reason: each for each in rows}
 
 
@@ -294,16 +273,22 @@ def _findings_of(name: str, part: SheetText, shows_all: bool, grammar: str) -> I
 def fixed(text: str) -> str:
     """Returns a style sheet with what has one right answer corrected: a semicolon that is missing,
     `!important` misspelt, and the name that one known name alone is near to."""
+    return corrected(text)[0]
+
+
+def corrected(text: str) -> Tuple[str, int]:
+    """Returns a style sheet as `fixed` does, and how many mistakes are corrected."""
+    count = 0
     for _ in range(_MOST_ROUNDS):
-        result = _corrected(text)
+        result, more = _corrected(text)
         if result == text:
             break
-        text = result
-    return text
+        text, count = result, count + more
+    return text, count
 
 
-def _corrected(text: str) -> str:
-    """Returns a sheet with the mistakes corrected that are not within one another."""
+def _corrected(text: str) -> Tuple[str, int]:
+    """Returns a sheet with the mistakes corrected that are not within one another, and how many."""
     parts: List[str] = []
     done = 0
     reports = _kept(SheetText(text), False, MODERN)
@@ -311,7 +296,7 @@ def _corrected(text: str) -> str:
         if start >= done:
             parts += text[done:start], right
             done = end
-    return "".join([*parts, text[done:]])
+    return "".join([*parts, text[done:]]), len(parts) // 2
 
 
 def _page_of(name: str, text: str, has_xml: bool) -> Optional[EditedPage]:
@@ -383,10 +368,10 @@ def _linked(page: EditedPage, shelf: Shelf, is_whole: bool) -> Iterator[Tuple[st
             yield str(file) if is_whole else os.path.relpath(file), sheet.source.text
 
 
-def as_text(found: Sequence[Finding], mark: Callable[[str], str]) -> str:
+def as_text(found: Sequence[Finding], mark: Callable[[str, Finding], str]) -> str:
     """Returns a line for each, with its position marked."""
     return "".join(
-        f"{mark(f'{printable(each.file)}:{each.row}:{each.column}')}: {each.message}\n"
+        f"{mark(f'{printable(each.file)}:{each.row}:{each.column}', each)}: {each.message}\n"
         for each in found
     )
 

@@ -5,6 +5,7 @@ from __future__ import annotations
 from . import _library as library
 from ._comments import with_comments
 from ._given import expect_css
+from ._kept import KeptSheet
 
 # The layouts of the library, and how the comments begin that are kept: any, and those of licences.
 _SHORT, _LINES = range(2)
@@ -41,6 +42,11 @@ def short_text(text: str) -> str:
     return short if len(short) < len(text) else text
 
 
+def printed_short(text: str) -> str:
+    """Returns what the library prints of a text, without comments, which may be as long."""
+    return _as_printed(text, _SHORT)
+
+
 def _printed(text: str, layout: int, front: str) -> str:
     """Returns a sheet in a layout, with the comments that begin so."""
     printed = _as_printed(text, layout)
@@ -53,6 +59,5 @@ def _printed(text: str, layout: int, front: str) -> str:
 
 def _as_printed(text: str, layout: int) -> str:
     """Returns a sheet as the library prints it, without comments."""
-    data = library.encode(text)
-    answer = library.call("simplecss_print", data, layout, room=256 + 2 * len(data))
-    return answer.output.decode("utf-8")
+    with KeptSheet(library.encode(text)) as sheet:
+        return sheet.text(layout).decode("utf-8")

@@ -45,12 +45,14 @@ _SKIPPED = frozenset((NESTED, "too deep"))
 class Block(NamedTuple):
     """The contents of the block of a style rule that has rules in it, or of a rule in one: where
     they are in the sheet, what is before the blocks of the style rules around them, the group
-    rules, and what is before the block of the style rule that they are in."""
+    rules, what is before the block of the style rule that they are in, and where the whole rule is.
+    """
 
     span: Span
     parents: Tuple[str, ...]
     conditions: Tuple[Condition, ...]
     head: str
+    rule: Span
 
 
 def has_rules(items: Iterable[BlockItem]) -> bool:
@@ -101,11 +103,13 @@ class _Reader:
         if outer.block is None or depth > DEEPEST:
             return _Open(None, "", depth)
         parents, conditions = outer.block.parents, outer.block.conditions
+        span = rule.head[0], min(rule.inner[1] + 1, len(self._source.data))
         if rule.condition is None:
             head = self._source.at(rule.head)
-            return _Open(Block(rule.inner, (*parents, outer.head), conditions, head), head, depth)
+            block = Block(rule.inner, (*parents, outer.head), conditions, head, span)
+            return _Open(block, head, depth)
         conditions = (*conditions, rule.condition)
-        return _Open(Block(rule.inner, parents, conditions, outer.head), outer.head, depth)
+        return _Open(Block(rule.inner, parents, conditions, outer.head, span), outer.head, depth)
 
     def _outermost(self, begun: BegunRule) -> _Open:
         """Returns a style rule that is in no other, with its block if it is one of the rules."""
@@ -120,7 +124,8 @@ class _Reader:
 
 def _block_of(rule: RuleSet, head: str) -> Block:
     """Returns the block of a style rule that is in no other."""
-    return Block((rule.head[1], rule.span[1]), (), conditions_of(rule.levels), head)
+    inner = rule.head[1], rule.span[1]
+    return Block(inner, (), conditions_of(rule.levels), head, rule.span)
 
 
 def every_block(

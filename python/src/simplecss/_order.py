@@ -7,6 +7,7 @@ import itertools
 from typing import Dict, Iterable, Iterator, List, Mapping, NamedTuple, Sequence, Tuple
 
 from . import _library as library
+from ._kept import RULES, WINNERS, KeptQuery, sheets_query
 from ._reading import STYLE, Contents, Level, Source
 from ._tokens import keywords_in
 
@@ -65,7 +66,7 @@ def _has_rule(css: str) -> bool:
     """Whether a sheet has a rule that applies."""
     sheets, room = library.SheetArrays([library.encode(css)], []), _OF_RULE + 1
     try:
-        return len(library.numbers_of("simplecss_rules", sheets, library.NO_LIMIT, room=room)) > 0
+        return len(sheets_query(sheets, library.NO_LIMIT).numbers(RULES, 0, 0, room=room)) > 0
     except library.LimitError:
         # It has more layers than the library orders.
         return True
@@ -170,9 +171,9 @@ def _places_in(text: str, count: int) -> List[_Place]:
     """Returns the rules of a text, which are so many, in the order of the cascade."""
     sheets = library.SheetArrays([library.encode(text)], [])
     room = _OF_RULE * count + 1
-    numbers = library.numbers_of("simplecss_rules", sheets, library.NO_LIMIT, room=room)
+    numbers = sheets_query(sheets, library.NO_LIMIT).numbers(RULES, 0, 0, room=room)
     if len(numbers) != _OF_RULE * count:
-        raise library.InternalError("simplecss_rules: other rules than those of the sheet")
+        raise library.InternalError("a query has other rules than those of the sheet")
     rows = zip(numbers[1::_OF_RULE], numbers[2::_OF_RULE])
     found: List[_Place] = []
     # What is important in an earlier layer is stronger.
@@ -233,11 +234,9 @@ class Winners:
         for rules in sets:
             strings += ("e", "class", " ".join(f"r{number}" for number in rules))
         tree = library.TreeArrays([0, 1, 0, 0] * len(sets), strings)
-        words = (self._sheets, 0, library.NO_LIMIT, tree, library.OwnArrays([]))
+        query = KeptQuery(tree, 0, self._sheets, library.NO_LIMIT, library.OwnArrays([]))
         room = 1024 + 64 * len(sets)
-        name, most = "simplecss_winners", library.NO_LIMIT
-        numbers = library.numbers_of(name, *words, room=room, with_fault=True, most=most)
-        return list(self._won(numbers))
+        return list(self._won(query.numbers(WINNERS, 0, len(sets), room=room)))
 
     def _won(self, numbers: "array.array[int]") -> Iterator[List[Tuple[int, int]]]:
         at = 0

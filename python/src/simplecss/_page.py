@@ -5,9 +5,7 @@ from __future__ import annotations
 import array
 import bisect
 import functools
-import operator
 import re
-from html import unescape
 from typing import (
     AbstractSet,
     Callable,
@@ -26,13 +24,13 @@ from typing import (
 from . import _edits
 from ._edits import Edit
 from ._elements import Elements, TreeError
-from ._html import HTML, MATH, SVG, Attribute, HtmlPage, attributes_of
+from ._html import ALTERNATIVE, HTML, IN_USE, MATH, SHEET_LINK, SVG, HtmlPage, attributes_of
 from ._library import LimitError
 from ._linked import in_use, is_alternate, is_sheet_link, links_in_use
 from ._patterns import pattern
 from ._tokens import replaced, tokens
 from ._words import BLANKS, lower
-from ._xml import SheetLink, XmlError, read_xml
+from ._xml import SheetLink, XmlError, XmlPage
 
 _HEAD_PARTS = frozenset("head title meta link base style script noscript template".split())
 # The elements of HTML whose content is text up to an end tag of theirs, for some browsers at least.
@@ -59,7 +57,6 @@ _ESCAPABLE = frozenset("comment string bad-string url bad-url".split())
 # What is written as an escape of CSS: control characters, which XML may not have, and which some
 # encodings read as marks.
 _CONTROLS = r"\0-\x08\x0b\x0e-\x1f\x7f-\x9f\ufffe\uffff"
-_CONTROL_IN_VALUE = pattern(r"[\x01-\x08\x0b\x0e-\x1f\x7f]")
 _DECLARED = pattern(r"\ufeff?[\t\n\r ]*<\?xml[\t\n\r ]")
 # What begins a tag, a comment or another declaration.
 _MARKUP = pattern("<(?=[A-Za-z/!?])")
@@ -67,11 +64,7 @@ _MARKUP_OF_NAME = pattern("<(?=[A-Za-z])")
 # What a page has if not all browsers may take the tag of a `style` for one of HTML.
 _DRAWN = pattern("<(?:svg|math|frameset|select)", re.IGNORECASE | re.ASCII)
 _NOSCRIPT = pattern("<noscript", re.IGNORECASE | re.ASCII)
-_CDATA = "<![CDATA["
-_SECTION = pattern(r"<!\[CDATA\[(.*?)(?:\]\]>|\Z)", re.DOTALL)
 _TAG_NAME = pattern(r"<[^\t\n\f\r />]+")
-# What may be before the `>` of a tag, and is not the end of its name or of an attribute.
-_UNENDED = frozenset((*BLANKS, "/", "="))
 
 Span = Tuple[int, int]
 _NONE: FrozenSet[str] = frozenset()
@@ -157,19 +150,6 @@ def _with_escapes(css: str, escaped: Callable[[str], str]) -> str:
 
 def _marked(found: Match[str]) -> Tuple[int, int, str]:
     return found.start(), found.end(), "\\3c "
-
-
-def _content(text: str) -> str:
-    """Returns the sheet that the text of a `style` element is where references are read."""
-    return "".join(
-        part if index % 2 else unescape(part) for index, part in enumerate(_SECTION.split(text))
-    )
-
-
-def _escape(text: str, quote: str) -> str:
-    text = text.replace("&", "&amp;").replace("<", "&lt;")
-    text = _CONTROL_IN_VALUE.sub(lambda found: f"&#{ord(found.group())};", text)
-    return text.replace('"', "&quot;") if quote == '"' else text.replace("'", "&#39;")
 
 
 class _Other:
@@ -267,7 +247,7 @@ class EditedPage:
         self.elements = Elements()
         # What is written in place of what.
         self._edits: List[Edit] = []
-        # The index of each element's start tag among those of the page in HTML, or -1.
+        # The index of each element's start tag among those of the page, or -1.
         self._tag_numbers: List[int] = []
         self._declared: Dict[int, Tuple[str, ...]] = {}
         # The elements whose own declarations are among those.
@@ -332,18 +312,18 @@ class EditedPage:
 
     def _read_xml(self) -> None:
         try:
-            found = read_xml(self.text)
+            page = XmlPage(self.text)
         except XmlError as error:
             raise TreeError(error.reason, error.row, error.column) from None
         other = None if _DECLARED.match(self.text) else _Other(self.text, False)
-        self.elements.take_tags(found, self.text)
-        for each in found.tags:
-            tag, end = (each.start, each.inner), (each.inner_end, each.end)
-            is_alike = other is None or other.is_alike(tag, each.name, _XML, end)
-            self._raw.append(_NONE)
-            self._spaces.append(_XML)
+        self.elements.take_document(page)
+        self._tag_numbers = list(range(len(page)))
+        self._raw = [_NONE] * len(page)
+        self._spaces = bytearray([_XML]) * len(page)
+        for tag, end, name in zip(page.tags(), page.ends(), page.names()):
+            is_alike = other is None or other.is_alike(tag, name, _XML, end)
             self.tags.append(tag if is_alike else None)
-            self._inner_ends.append(each.inner_end)
+            self._inner_ends.append(end[0])
 
     def _end(self, index: int) -> Span:
         """Returns where the end tag of an element is, or twice where it ends without one."""
@@ -389,6 +369,10 @@ class EditedPage:
             yield Content(index, each.span, each.span, each.href, each)
 
     def _is_sheet_link(self, index: int) -> bool:
+        """Whether a link is one to a style sheet that may be in use."""
+        if self.elements.page_sheets is not None:
+            kind = self.elements.page_sheets.get(index, 0)
+            return bool(kind & SHEET_LINK) and kind & (ALTERNATIVE | IN_USE) != ALTERNATIVE
         attributes = self.elements.plain[index]
         is_link = self._spaces[index] in (HTML, _XML) and is_sheet_link(attributes)
         return is_link and (not is_alternate(attributes) or index in self._in_use)
@@ -402,8 +386,9 @@ class EditedPage:
         """Returns the sheet of a `style` element."""
         if self._spaces[content.element] == SVG:
             return self.elements.own_text_of(content.element)
-        css = self.text[content.inner[0] : content.inner[1]]
-        return _content(css) if self.is_xml else css
+        if self.is_xml:
+            return self.elements.own_text_of(content.element).replace("\n", self.newline)
+        return self.text[content.inner[0] : content.inner[1]]
 
     def set_sheet(self, content: Content, css: str) -> None:
         """Replaces the sheet of a `style` element; without one the element goes, if it is in the
@@ -420,13 +405,11 @@ class EditedPage:
 
     def _replace_link(self, content: Content, css: str) -> None:
         if content.link is not None:
-            self._edit(_edits.TAKE_OUT, content.span, "")
+            self._edit(_edits.TAKE_OUT_INSTRUCTION, content.span, "")
             if css:
                 self.add_sheet(css)
         elif css or not self._may_go(content):
-            prefix = self._prefix(content.span[0]) if self.is_xml else ""
-            text = self._style_element(css, content.element, prefix)
-            self._edit(_edits.REPLACE, content.span, text, content)
+            self._edit(_edits.REPLACE, content.span, self._new_text(css, content.element), content)
         else:
             self._edit(_edits.TAKE_OUT, content.span, "", content)
 
@@ -436,17 +419,16 @@ class EditedPage:
         others = () if css.isascii() else set(css)
         lacking = (each for each in others if not each.isascii() and self._lacks(each))
         css = written(css, frozenset(lacking))
+        if self.is_xml:
+            return css
         if self._spaces[index] != HTML:
             return style_text(css, _NONE)
         return style_text(css, self._raw[index] | {"style"}, self._is_drawn)
 
-    def _style_element(self, css: str, index: int, prefix: str = "") -> str:
-        """Returns the text of a new `style` element beside the element of this index, in HTML without its
-        tags."""
+    def _new_text(self, css: str, index: int) -> str:
+        """Returns the text of a new `style` element beside the element of this index."""
         text = self._style_text(css, index).replace("\r\n", "\n")
-        inside = f"\n{text}\n".replace("\n", self.newline) if css else ""
-        name = f"{prefix}:style" if prefix else "style"
-        return f"<{name}>{inside}</{name}>" if self.is_xml else inside
+        return f"\n{text}\n".replace("\n", self.newline) if css else ""
 
     def _is_in_head(self, index: int) -> bool:
         """Whether an element is where a new `style` element may be: in the head, or in a drawing
@@ -470,11 +452,10 @@ class EditedPage:
         """Adds a `style` element before the others, else at the end of the head."""
         if self.is_xml:
             offset, prefix = self._place_in_xml()
-            text = self._style_element(css, 0, prefix)
         else:
-            offset = self._place_in_head()
-            text = self._style_element(css, _HEAD)
-        self._edit(_edits.PUT_IN, (offset, offset), text)
+            offset, prefix = self._place_in_head(), ""
+        text = self._new_text(css, 0 if self.is_xml else _HEAD)
+        self._edits.append(Edit(_edits.PUT_IN, offset, offset, -1, prefix, text))
 
     def _place_in_head(self) -> int:
         """Returns where a new `style` element goes: before the other sheets of the head, and before
@@ -600,12 +581,9 @@ class EditedPage:
 
     def edited(self) -> str:
         """Returns the text with all edits."""
-        text = self._edited_xml() if self.is_xml else self._edited_html()
-        return text[: self._front[0]] + text[self._front[1] :]
-
-    def _edited_html(self) -> str:
         changes = [each for index in self._changed() for each in self._changes_of(index)]
-        return _edits.edited(self.text, [*self._edits, *changes])
+        text = _edits.edited(self.text, [*self._edits, *changes], self.is_xml)
+        return text[: self._front[0]] + text[self._front[1] :]
 
     def _changed(self) -> List[int]:
         """Returns the elements whose tags change."""
@@ -631,123 +609,5 @@ class EditedPage:
         if index in self._with_own or not own.strip(BLANKS):
             return _edits.SET, declared
         # That of a second tag of the element, if its own tag has none.
-        is_own = any(each.name == _STYLE for each in attributes_of(tag))
+        is_own = self.is_xml or any(each.name == _STYLE for each in attributes_of(tag))
         return (_edits.BEFORE, f"{declared}; ") if is_own else (_edits.SET, f"{declared}; {own}")
-
-    def _edited_xml(self) -> str:
-        edits = [(each.start, each.end, each.text) for each in self._edits]
-        edits += self._edited_tags()
-        parts: List[str] = []
-        last = 0
-        # Of two that replace the same, the first.
-        edits.sort(key=operator.itemgetter(1))
-        edits.sort(key=operator.itemgetter(0))
-        page = self.text
-        for start, end, text in edits:
-            if start >= last:
-                parts += page[last:start], text
-                last = end
-        parts.append(page[last:])
-        return "".join(parts)
-
-    def _edited_tags(self) -> Iterator[Tuple[int, int, str]]:
-        """Yields where tags are written anew, and their texts."""
-        # Many elements have the same tag, and get the same: elements of a kind have the same tuple.
-        added: Dict[int, str] = {}
-        made: Dict[Tuple[object, ...], str] = {}
-        page, attributes, tags = self.text, self.elements.plain, self.tags
-        for index in sorted({*self._declared, *self._changes}):
-            tag = tags[index]
-            if tag is None:
-                continue
-            declared, last = self._declared.get(index, ()), tag[1] - 1
-            is_new = index not in self._changes and "style" not in attributes[index]
-            if is_new and page[last - 1] not in _UNENDED:
-                key = id(declared)
-                if key not in added:
-                    added[key] = _new_style(declared)
-                yield last, last, added[key]
-            else:
-                text = self._edited_tag(index, page[tag[0] : tag[1]], declared, made)
-                yield (*tag, text)
-
-    def _edited_tag(
-        self,
-        index: int,
-        text: str,
-        declared: Tuple[str, ...],
-        made: Dict[Tuple[object, ...], str],
-    ) -> str:
-        """Returns the text of a tag that is written anew, as it was made of an equal one before."""
-        # That of a second tag of the element, if its own tag has none.
-        own = self.elements.plain[index].get("style", "")
-        changes = self._changes.get(index, {})
-        has_own = index in self._with_own
-        key = (text, None if has_own else own, id(declared), *changes.items())
-        if key not in made:
-            made[key] = _new_tag(text, declared, changes, None if has_own else own, self.is_xml)
-        return made[key]
-
-
-def _new_style(declarations: Iterable[str]) -> str:
-    """Returns a new attribute `style`, with a space before it."""
-    text = _escape("; ".join(declarations), '"')
-    return f' style="{text}"'
-
-
-def _new_tag(
-    tag: str,
-    declarations: Tuple[str, ...],
-    changes: Dict[str, Optional[str]],
-    own: Optional[str],
-    has_case: bool,
-) -> str:
-    """Returns the text of a start tag with the declarations in its attribute `style`, before its
-    own, or in place of these for `None`, and with attributes set or removed."""
-    attributes = attributes_of(tag)
-    if has_case:
-        attributes = [
-            each._replace(name=tag[each.start : each.start + len(each.name)]) for each in attributes
-        ]
-    name = _TAG_NAME.match(tag)
-    last = name.end() if name else 1
-    parts = [tag[:last]]
-    missing: Dict[str, Optional[str]] = {"style": None, **changes}
-    for each in attributes:
-        text = tag[each.start : each.end]
-        before = tag[last : each.start]
-        last = each.end
-        if each.name not in missing or each.name == "style" and not declarations:
-            parts.append(before + text)
-            # A value that is missing after `=` would be what comes next.
-            parts.append('""' if each.value == "" else "")
-            continue
-        value = missing.pop(each.name)
-        if each.name == "style":
-            parts.append(before + _with_declarations(each, declarations, own is not None))
-        elif value is not None:
-            parts.append(f'{before}{each.name}="{_escape(value, chr(34))}"')
-        else:
-            parts.append(before.rstrip(BLANKS))
-        # What follows a value in quotes may follow it at once; what follows another may not, of
-        # which a slash would be a part.
-        slash = ("/",) if each.name == "style" else ()
-        if tag[last : last + 1] not in (*BLANKS, *slash, ">", "") and value is None:
-            parts.append(" ")
-    if "style" in missing and declarations:
-        both = (*declarations, own) if own and own.strip(BLANKS) else declarations
-        parts.append(_new_style(both))
-    for key, value in missing.items():
-        if value is not None:
-            parts.append(f' {key}="{_escape(value, chr(34))}"')
-    return "".join(parts) + tag[last:]
-
-
-def _with_declarations(own: Attribute, declarations: Tuple[str, ...], has_both: bool) -> str:
-    """Returns an attribute `style` with declarations before its own, or in place of these."""
-    value = own.value or ""
-    quote = value[0] if value[:1] in ("'", '"') else '"'
-    raw = value[1:-1] if value[:1] == quote else value.replace('"', "&quot;")
-    style = _escape("; ".join(declarations), quote)
-    both = f"{style}; {raw}" if has_both and raw.strip(BLANKS) else style
-    return f"style={quote}{both}{quote}"

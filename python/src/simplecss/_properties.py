@@ -9,6 +9,9 @@ from . import _library as library
 from ._tokens import decoded
 from ._words import lower
 
+# What is asked of a property, as the library numbers it.
+_LONGHANDS, _SHORTHANDS, _COUNTERPART, _INHERITED = range(4)
+
 
 def denoted(name: str) -> str:
     """Returns a name without escapes."""
@@ -20,6 +23,12 @@ def is_custom(name: str) -> bool:
     return denoted(name).startswith("--")
 
 
+def _asked(name: str, asked: int, room: int) -> Tuple[str, ...]:
+    """Returns the words that the library writes of a property, of which it may know nothing."""
+    word = library.encode(name if is_custom(name) else lower(name))
+    return tuple(library.call("simplecss_property", word, asked, room=room).output.decode().split())
+
+
 @functools.lru_cache(maxsize=4096)
 def longhands(name: str) -> Tuple[str, ...]:
     """Returns the longhands that a shorthand sets. A longhand has none.
@@ -27,24 +36,20 @@ def longhands(name: str) -> Tuple[str, ...]:
     Of a property with two names, one sets the other: `word-wrap` sets `overflow-wrap`. `all` sets every
     longhand but `direction` and `unicode-bidi`.
     """
-    found = library.call("simplecss_longhands", library.encode(lower(name)), room=16384)
-    return tuple(found.output.decode("utf-8").split())
+    return _asked(name, _LONGHANDS, room=16384)
 
 
 @functools.lru_cache(maxsize=4096)
 def shorthands(name: str) -> Tuple[str, ...]:
     """Returns the shorthands that set a longhand."""
-    answer = library.call("simplecss_shorthands", library.encode(lower(name)), room=1024)
-    found = library.output_of("simplecss_shorthands", answer)
-    return tuple(found.decode("utf-8").split())
+    return _asked(name, _SHORTHANDS, room=1024)
 
 
 @functools.lru_cache(maxsize=4096)
 def counterparts(name: str) -> Tuple[str, ...]:
     """Returns the physical property that a logical one sets in text that is horizontal, from left to right,
     or the logical one of a physical one."""
-    found = library.call("simplecss_counterpart", library.encode(lower(name)), room=64)
-    return tuple(found.output.decode("utf-8").split())
+    return _asked(name, _COUNTERPART, room=64)
 
 
 def names_setting(name: str) -> Tuple[str, ...]:
@@ -58,9 +63,7 @@ def names_setting(name: str) -> Tuple[str, ...]:
 def is_inherited(name: str) -> bool:
     """Whether a property is inherited: each custom property is, and a shorthand if all its longhands
     are."""
-    word = library.encode(name if is_custom(name) else lower(name))
-    answer = library.call("simplecss_inherited", word, room=8)
-    return library.output_of("simplecss_inherited", answer) == b"true"
+    return _asked(name, _INHERITED, room=8) == ("true",)
 
 
 @functools.lru_cache(maxsize=4096)

@@ -25,6 +25,8 @@ from typing import (
 from . import _library as library
 from ._declaration import Declaration
 from ._found_names import names_in
+from ._kept import KeptSheet
+from ._placed import HasPlace
 from ._properties import denoted
 from ._selectors import Specificity
 from ._tokens import originating, tokens
@@ -81,17 +83,19 @@ class Outer(NamedTuple):
     number: int = 0
 
 
-class AtRule(NamedTuple):
-    """An at-rule that has no rules, or none that are read.
-
-    It has its `name`, the `prelude` before its block, its `block`, if there is one, and the group
-    rules that it is in.
-    """
-
+class _AtRule(NamedTuple):
     name: str
     prelude: str
     block: Optional[str]
     conditions: Tuple[Condition, ...]
+
+
+class AtRule(_AtRule, HasPlace):
+    """An at-rule that has no rules, or none that are read.
+
+    It has its `name`, the `prelude` before its block, its `block`, if there is one, the group
+    rules that it is in, and in a sheet its `place`.
+    """
 
     def __str__(self) -> str:
         head = f"@{self.name} {self.prelude}".rstrip()
@@ -124,6 +128,20 @@ class Source:
             return at
         block = at // _BLOCK
         return self._counts[block] + _count(self.data[block * _BLOCK : at])
+
+    def byte(self, offset: int) -> int:
+        """Returns the offset of the first byte of the character at an offset."""
+        if self._is_ascii:
+            return offset
+        block = offset // _BLOCK
+        return self._sizes[block] + len(self.text[block * _BLOCK : offset].encode("utf-8"))
+
+    @functools.cached_property
+    def _sizes(self) -> List[int]:
+        """How many bytes are before each block of characters."""
+        starts = range(0, len(self.text), _BLOCK)
+        sizes = (len(self.text[start : start + _BLOCK].encode("utf-8")) for start in starts)
+        return [0, *itertools.accumulate(sizes)]
 
     @functools.cached_property
     def _counts(self) -> List[int]:
@@ -382,9 +400,8 @@ class _Reader(DeclarationReader):
 
     def _written(self) -> Iterator[Statement]:
         """Yields the statements that the library writes."""
-        data = self.source.data
-        most = library.most_numbers(len(data))
-        numbers = library.numbers_of("simplecss_read", data, room=1024 + len(data), most=most)
+        with KeptSheet(self.source.data) as sheet:
+            numbers = sheet.statements()
         at, end = 0, len(numbers)
         while at < end:
             row = numbers[at : at + _OF_STATEMENT]
@@ -547,8 +564,8 @@ class Contents:
         """Reads all of the sheet, or what is between two offsets."""
         self._reader = _Reader(source)
         self._start, self._end = place or (0, len(source.data))
-        data = source.data[self._start : self._end]
-        self._numbers = library.numbers_of("simplecss_contents", data, room=1024 + 2 * len(data))
+        with KeptSheet(source.data[self._start : self._end]) as sheet:
+            self._numbers = sheet.contents()
         self._kinds = self._numbers[::_OF_ITEM]
         # They do not fall.
         self._starts = self._numbers[1::_OF_ITEM]

@@ -201,6 +201,37 @@ def registered_in(
                 yield each.rule.prelude, each.rule.block
 
 
+class ResolvedElements:
+    """The declarations of elements with their references replaced, each found with its ancestors when it is
+    asked for."""
+
+    def __init__(
+        self,
+        parents: Sequence[int],
+        styles: Callable[[int], Sequence[Declaration]],
+        registered: Sequence[Pair],
+        limit: int,
+    ) -> None:
+        """Takes the indices of parents, what returns the declarations of an element, and `@property` rules."""
+        self._parents = parents
+        self._styles = styles
+        self._resolver = _Resolver(registered, limit)
+        self._found: Dict[int, _Element] = {-1: _Element([], {})}
+
+    def declarations(self, index: int) -> List[Declaration]:
+        """Returns the declarations of an element. One that is invalid at computed-value time is left out."""
+        way: List[int] = []
+        at = index
+        while at not in self._found:
+            way.append(at)
+            at = self._parents[at]
+        custom = self._found[at].custom
+        for each in reversed(way):
+            found = self._found[each] = self._resolver.element(self._styles(each), custom)
+            custom = found.custom
+        return self._found[index].declarations
+
+
 def resolved(
     tree: Tree, styles: List[List[Declaration]], registered: Sequence[Pair], limit: int
 ) -> List[List[Declaration]]:
@@ -208,12 +239,6 @@ def resolved(
     rules are. One that is invalid at computed-value time is left out. A parent hands its custom properties
     down: more of them than `limit`, each time that they are read, raise `LimitError`.
     """
-    resolver = _Resolver(registered, limit)
-    none: Custom = {}
-    custom: List[Custom] = []
-    found: List[List[Declaration]] = []
-    for parent, declared in zip(elements_of(tree).parents, styles):
-        element = resolver.element(declared, custom[parent] if parent >= 0 else none)
-        custom.append(element.custom)
-        found.append(element.declarations.copy())
-    return found
+    parents = elements_of(tree).parents
+    found = ResolvedElements(parents, styles.__getitem__, registered, limit)
+    return [found.declarations(index).copy() for index in range(len(styles))]

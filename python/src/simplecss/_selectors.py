@@ -235,8 +235,9 @@ def matched(
     spaces between them. The selectors are of the grammar of this number. More numbers than `limit`
     raise `LimitError`."""
     texts = selectors if isinstance(selectors, SelectorTexts) else SelectorTexts(selectors)
-    words = [*texts.encoded, number, tree]
-    return _lines_of("simplecss_match_selectors", words, tree, len(selectors), limit)
+    words = "simplecss_match_selectors", *texts.encoded, number, tree
+    ask = functools.partial(library.call, *words, with_fault=True)
+    return _lines_of(ask, tree, len(selectors), limit)
 
 
 def matched_of_port(
@@ -245,12 +246,12 @@ def matched_of_port(
     """Returns for each element the numbers of the rules that match it, of the style sheet of texts by the
     grammar of the Rust crate, as `matched` does. They are so many rules, with `most` declarations at most.
     """
-    words = [b"".join(texts), library.ends_of(map(len, texts)), most, tree]
-    return _lines_of("simplecss_port_match", words, tree, count, limit)
+    words = library.PORT_MATCHES, texts, most, tree
+    return _lines_of(functools.partial(library.port, *words), tree, count, limit)
 
 
 def _lines_of(
-    name: str, words: Sequence[Any], tree: library.TreeArrays, count: int, limit: int
+    ask: Callable[..., library.Answer], tree: library.TreeArrays, count: int, limit: int
 ) -> List[bytes]:
     """Returns the numbers, of so many, that a call writes of each element. More than `limit` raise
     `LimitError`."""
@@ -260,10 +261,10 @@ def _lines_of(
     most = min(tree.count * (2 + len(str(tree.count))) + numbers, library.NO_LIMIT)
     room = library.Room(limit)
     try:
-        answer = library.call(name, *words, room=1024 + 32 * tree.count, with_fault=True, most=most)
+        answer = ask(room=1024 + 32 * tree.count, most=most)
     except library.LimitError:
         raise room.passed() from None
-    output = library.output_of(name, answer)
+    output = library.output_of("the lines of elements", answer)
     room.take(output.count(b" "))
     # The numbers of elements, of which nothing more is needed, and the lines are in turn.
     return output.replace(b":", b"\n").split(b"\n")[1::2]

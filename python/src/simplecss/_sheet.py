@@ -2,11 +2,13 @@
 
 from __future__ import annotations
 
+import array
 import collections
 import functools
 import itertools
 from typing import (
     Any,
+    Callable,
     Container,
     Dict,
     Iterable,
@@ -32,6 +34,7 @@ from ._lines import Lines
 from ._linked import Load, Name, Piece, Shelf, Unread, imports_in, pieces_of, sheets_of
 from ._making import sheet_text, with_end
 from ._nested import Block, Places, blocks_of, every_block, unsupported_in
+from ._placed import At, HasPlace, placed
 from ._properties import is_custom, names_setting
 from ._reading import (
     GROUPS,
@@ -39,10 +42,12 @@ from ._reading import (
     AtRule,
     BlockItem,
     Condition,
+    Contents,
     Fault,
     Level,
     Outer,
     ReadAtRule,
+    ReadDeclaration,
     RuleSet,
     Source,
     Span,
@@ -60,7 +65,7 @@ from ._selectors import (
     grammar_of,
 )
 from ._explaining import Explaining, Explanation, OnElements, Text
-from ._resolving import Pair, registered_in
+from ._resolving import Pair, ResolvedElements, registered_in
 from ._resolving import resolved as with_values
 from ._specified import (
     NO_OWN,
@@ -74,7 +79,7 @@ from ._specified import (
 from ._tree import Element, Tree, elements_of
 from ._unused import Unused, Usage
 from ._user_agent import user_agent_sheet
-from ._winners import AUTHOR, ORIGINS, PlacedRule, ReadSheet, Winning
+from ._winners import AUTHOR, ORIGINS, PlacedRule, Query, ReadSheet, Winning
 from ._words import BLANKS, lower
 
 T = TypeVar("T")
@@ -89,7 +94,16 @@ _FIRST = frozenset(("charset", "import", LAYER))
 _COMPARED = 10
 
 
-class Rule(NamedTuple):
+class _Rule(NamedTuple):
+    selector: str
+    specificity: Specificity
+    declarations: Tuple[Declaration, ...]
+    conditions: Tuple[Condition, ...] = ()
+    pseudo_element: Optional[str] = None
+    parents: Tuple[str, ...] = ()
+
+
+class Rule(_Rule, HasPlace):
     """A rule of a style sheet: a selector with declarations.
 
     It has the text of its `selector`, its `specificity`, and its `declarations`; the group rules
@@ -99,26 +113,23 @@ class Rule(NamedTuple):
     A rule in a style rule has `parents`: what is before the blocks of the style rules that it is in, the
     outermost first. The declarations before a rule in a style rule, in it, and after it are rules of
     their own.
+
+    Its `place` begins with its selector, of a rule in a style rule with its list, and ends with its block.
     """
 
-    selector: str
-    specificity: Specificity
-    declarations: Tuple[Declaration, ...]
-    conditions: Tuple[Condition, ...] = ()
-    pseudo_element: Optional[str] = None
-    parents: Tuple[str, ...] = ()
 
-
-class Unsupported(NamedTuple):
-    """A rule whose selector is valid and unsupported. It matches no element.
-
-    A nested rule has `parents`, as a `Rule` has.
-    """
-
+class _Unsupported(NamedTuple):
     selector: str
     declarations: Tuple[Declaration, ...]
     conditions: Tuple[Condition, ...]
     parents: Tuple[str, ...] = ()
+
+
+class Unsupported(_Unsupported, HasPlace):
+    """A rule whose selector is valid and unsupported. It matches no element.
+
+    A nested rule has `parents`, and each a `place`, as a `Rule` has.
+    """
 
 
 class Skipped(NamedTuple):
@@ -310,12 +321,13 @@ class StyleSheet:
         self._origins = _origins_of(origins, len(texts), grammar)
         self._limit = library.limit_of(limit)
         self._answer_limit = library.limit_of(answer_limit)
+        self._is_within_limit = False
         self._read: Optional[List[Tuple[Source, List[Statement]]]] = None
         self._read_blocks: Optional[List[List[Block]]] = None
         self._contents: Optional[_Contents] = None
         self._selectors: Dict[Device, _Selectors] = {}
         # By the device, and the sheets that are before this one.
-        self._winning_on: Dict[Tuple[Device, Tuple[StyleSheet, ...]], Winning] = {}
+        self._winning_on: Dict[Tuple[Device, Tuple[StyleSheet, ...], bool], Winning] = {}
 
     @classmethod
     def of_rules(
@@ -405,11 +417,10 @@ class StyleSheet:
         page = (self._outer, self._pieces, self.unread, self._left, self._urls)
         return (_sheet_of, (texts, self._origins, page, self._grammar, *limits))
 
-    def _call(self, name: str, room: int) -> bytes:
-        """Calls what reads the sheet by the grammar "simplecss"."""
-        ends = library.ends_of(map(len, self._texts))
-        answer = library.call(name, b"".join(self._texts), ends, self._limit, room=room)
-        return library.output_of(name, answer)
+    def _ask_port(self, asked: int, room: int) -> bytes:
+        """Asks what reads the sheet by the grammar "simplecss"."""
+        answer = library.port(asked, self._texts, self._limit, room=room)
+        return library.output_of("simplecss_port", answer)
 
     def _statements(self) -> List[Tuple[Source, List[Statement]]]:
         """Returns what the texts have by the grammar "modern"."""
@@ -430,8 +441,12 @@ class StyleSheet:
         return self._contents
 
     def _contents_of_port(self) -> _Contents:
-        output = self._call("simplecss_port_rules", 1024 + 8 * sum(map(len, self._texts)))
+        output = self._ask_port(library.PORT_RULES, 1024 + 8 * sum(map(len, self._texts)))
         return _Contents(tuple(_rules_of_port(Lines(output))), (), (), {})
+
+    def _at(self, number: int, span: Span) -> At:
+        """Returns where bytes of a text are."""
+        return At(self._statements()[number][0], number, self._urls[number], *span)
 
     def _blocks(self) -> List[List[Block]]:
         """Returns the blocks of the rules in style rules of each text, and of these style rules."""
@@ -440,18 +455,16 @@ class StyleSheet:
         return self._read_blocks
 
     def _contents_of_modern(self) -> _Contents:
-        statements = [
-            (each, outer)
-            for (_, found), outer in zip(self._statements(), self._conditions)
-            for each in found
-        ]
         self._check_limit()
         found = list(self._placed_rules()) if any(self._placed_blocks()) else []
         nested = [(each.place, each.rule) for each in found]
         supported = {(each.block, each.text) for each in found}.union(self._silent())
-        plain, outermost = _rules_of(self._sets({each.block for each in found}), supported)
+        plain, outermost = _rules_of(
+            self._sets({each.block for each in found}), supported, self._at
+        )
         unsupported = sorted(
-            itertools.chain(outermost, self._unsupported_in(found)), key=lambda each: each[0]
+            itertools.chain(outermost, self._unsupported_in(found)),
+            key=lambda each: each[0],
         )
         # Rules of equal specificity stay as they stand.
         rules = sorted(plain + nested, key=lambda each: each[0])
@@ -462,8 +475,12 @@ class StyleSheet:
             if place in starts:
                 indices.setdefault(place, []).append(index)
         at_rules = (
-            each.rule._replace(conditions=outer + each.rule.conditions) if outer else each.rule
-            for statement, outer in statements
+            placed(
+                each.rule._replace(conditions=self._conditions[number] + each.rule.conditions),
+                self._at(number, each.span),
+            )
+            for number, (_, those) in enumerate(self._statements())
+            for statement in those
             for each in _at_rules_of(statement)
         )
         return _Contents(
@@ -495,22 +512,22 @@ class StyleSheet:
 
     def _unsupported_in(self, found: Iterable["_Placed"]) -> Iterator[Tuple[Place, Unsupported]]:
         """Yields the unsupported rules in style rules, and where each is. These are the supported ones."""
-        placed: Dict[int, Dict[int, Set[str]]] = {}
+        known: Dict[int, Dict[int, Set[str]]] = {}
         for each in found:
             number, start = each.block
-            placed.setdefault(number, {}).setdefault(start, set()).add(each.text)
+            known.setdefault(number, {}).setdefault(start, set()).add(each.text)
         left = self._limit
         for number, (source, statements) in enumerate(self._statements()):
             own = {each.head[1] for each in statements if isinstance(each, RuleSet)}
             inner = (each for each in self._blocks()[number] if each.span[0] not in own)
-            supported = placed.get(number, {})
+            supported = known.get(number, {})
             for block, selector, declarations in unsupported_in(source, inner, supported):
                 left -= len(declarations)
                 if left < 0:
                     raise library.LimitError(_TOO_MANY)
                 conditions = self._conditions[number] + block.conditions
                 rule = Unsupported(selector, declarations, conditions, block.parents)
-                yield (number, block.span[0]), rule
+                yield (number, block.span[0]), placed(rule, self._at(number, block.rule))
 
     def _silent(self) -> Iterator[Tuple[Place, str]]:
         """Yields the selectors of the rules without declarations of texts that declare namespaces, and where
@@ -522,16 +539,22 @@ class StyleSheet:
 
     def _placed_rules(self) -> Iterator["_Placed"]:
         """Yields the rules that the library places, as they stand in the texts."""
-        every = self._winning_by(lambda text: True, (self,))
+        every = self._winning_by(lambda text: True, (self,), True)
         blocks = self._placed_blocks()
-        rules = sorted(zip(every.rules, every.texts()), key=lambda each: each[0][:2])
+        rules = sorted(zip(every.rules, every.selectors), key=lambda each: each[0][:2])
         for number, found in itertools.groupby(rules, key=lambda each: each[0].sheet):
             places = Places(blocks[number])
-            for placed, text in found:
-                block = places.at(placed.start)
+            for each, text in found:
+                block = places.at(each.start)
                 if block is not None:
-                    rule = _nested_rule(placed, text, block, self._conditions[number])
-                    place = (number, placed.start)
+                    declared = each.declarations
+                    declarations = tuple(
+                        placed(Declaration(*one), self._at(number, declared.span(at)))
+                        for at, one in enumerate(declared)
+                    )
+                    rule = _nested_rule(each, text, block, self._conditions[number], declarations)
+                    place = (number, each.start)
+                    rule = placed(rule, self._at(number, block.rule))
                     yield _Placed(place, (number, block.span[0]), text, rule)
 
     def _read_sheets(self) -> Iterator[ReadSheet]:
@@ -552,12 +575,15 @@ class StyleSheet:
 
     def _check_limit(self) -> None:
         """Raises `LimitError` for a sheet whose rules would hold more declarations than its limit."""
+        if self._is_within_limit:
+            return
         every = (each for _, found in self._statements() for each in found)
         sets = [each for each in every if isinstance(each, RuleSet)]
         # How many items there are is known sooner than how many of them are declarations.
         most = sum(len(each.selectors) * len(each.items) for each in sets)
         if most > self._limit < sum(len(each.selectors) * len(each.declarations) for each in sets):
             raise library.LimitError(_TOO_MANY)
+        self._is_within_limit = True
 
     @property
     def rules(self) -> Tuple[Rule, ...]:
@@ -597,8 +623,8 @@ class StyleSheet:
     def _skipped_of_port(self) -> Iterator[Skipped]:
         for number, text in enumerate(self._texts):
             source = Source(text.decode("utf-8"))
-            answer = library.call("simplecss_port_skipped", text, room=1024 + 2 * len(text))
-            lines = Lines(library.output_of("simplecss_port_skipped", answer))
+            answer = library.port(library.PORT_SKIPPED, [text], room=1024 + 2 * len(text))
+            lines = Lines(library.output_of("simplecss_port", answer))
             while lines.are_left():
                 (row, column, length), reason = lines.numbers_and_rest(3)
                 part = lines.text(length)
@@ -611,7 +637,7 @@ class StyleSheet:
     def __str__(self) -> str:
         if self._grammar == PORT:
             room = 1024 + 4 * sum(map(len, self._texts))
-            return self._call("simplecss_port_sheet", room).decode("utf-8")[:-1]
+            return self._ask_port(library.PORT_SHEET, room).decode("utf-8")[:-1]
         # Printing obeys the limit, too.
         self._all()
         return "\n".join(self._lines())
@@ -715,7 +741,8 @@ class StyleSheet:
     def _nested_on(self, elements: Elements, media: Media) -> Iterator[List[int]]:
         """Yields for each element the indices of the rules that match it of those that the library
         places."""
-        winning = self._winning(media, (self,))
+        winning = self._winning(media, (self,), True)
+        query = winning.on(elements, NO_OWN)
         left = {place: iter(indices) for place, indices in self._all().nested.items()}
         # The index of each rule, but for those of others and of pseudo-elements.
         found = [next(left.get(each[:2], iter(())), None) for each in winning.rules]
@@ -724,7 +751,7 @@ class StyleSheet:
             None if each is None or rules[each].pseudo_element is not None else each
             for each in found
         ]
-        for numbers in winning.matching(elements, self._answer_limit):
+        for numbers in query.matching(self._answer_limit):
             yield [each for each in map(kept.__getitem__, numbers) if each is not None]
 
     def styles(
@@ -737,6 +764,7 @@ class StyleSheet:
         inherit: Inherit = False,
         resolved: bool = False,
         ua: bool = False,
+        any_value: bool = False,
     ) -> "ByElement[ByName]":
         """Returns for each element the winning declaration of each name (CSS Cascading 5, section 6).
 
@@ -752,14 +780,16 @@ class StyleSheet:
         hand down or `@property` registers, and a declaration that is then invalid is left out. With `ua`,
         the rules take part that HTML and SVG suggest to browsers: their origin is "user-agent", and the
         limits count them, too. The grammar "simplecss" has no `ua`. `media` is that of `match`.
+
+        A declaration of an author or a user whose value no browser takes is none, as far as a table says
+        (`docs/PYTHON.md`); with `any_value` it counts, as it does by the grammar "simplecss".
         """
         if self._grammar == PORT:
             _expect_none(ua=ua)
             found = self._styles_of_port(tree, media, presentation if specified else None)
         else:
-            winning = self._compared_winning(tree, media, ua)
-            own = Own(tree, presentation) if specified else NO_OWN
-            found = winning.on(_elements_in(tree), own, self._answer_limit)
+            hints = _hints_of(specified, presentation)
+            found = self._query(tree, media, ua, hints, any_value).winners(self._answer_limit)
         if resolved:
             registered = list(self._registered(media))
             found = with_values(tree, found, registered, self._answer_limit)
@@ -788,15 +818,36 @@ class StyleSheet:
         every = [specified_by(element, each, presentation) for element, each in zip(tree, found)]
         return every if name is None else _with_name(every, name)
 
-    def _compared_winning(self, tree: Tree, media: Media, ua: bool) -> Winning:
-        """Returns the rules that apply on a device, with those of the user agent if asked for. Raises
-        `LimitError` if too much is to be compared."""
+    def _query(
+        self,
+        tree: Tree,
+        media: Media,
+        ua: bool,
+        presentation: Optional[Presentation],
+        any_value: bool,
+    ) -> Query:
+        """Returns the rules that apply on a device, with those of the user agent if asked for, on the elements of a
+        tree, of whose own declarations none takes part without presentation declarations. The tree has the last one.
+        """
         elements = _elements_in(tree)
         sheets = (user_agent_sheet(tree), self) if ua else (self,)
-        winning = self._winning(media, sheets)
-        if len(elements) * winning.count > _COMPARED * self._answer_limit:
+        winning = self._winning(media, sheets, any_value)
+        query = elements.asked_last(
+            (Query, winning, presentation, any_value),
+            lambda: winning.on(
+                elements,
+                NO_OWN if presentation is None else Own(tree, presentation, any_value),
+            ),
+        )
+        return self._compared(tree, media, sheets, query)
+
+    def _compared(
+        self, tree: Tree, media: Media, sheets: Sequence["StyleSheet"], query: Query
+    ) -> Query:
+        """Returns the rules of sheets on the elements of a tree. Raises `LimitError` if too much is to be compared."""
+        if len(elements_of(tree)) * query.cascade.count > _COMPARED * self._answer_limit:
             self._check_compared(tree, media, sheets)
-        return winning
+        return query
 
     def _check_compared(self, tree: Tree, media: Media, sheets: Sequence["StyleSheet"]) -> None:
         """Raises `LimitError` if more rules match elements than the limit, or if the rules that match one
@@ -807,18 +858,18 @@ class StyleSheet:
             for sheet, indices in zip(sheets, found):
                 compared.take(sum(len(sheet.rules[each].declarations) for each in indices))
 
-    def _winning(self, media: Media, sheets: Tuple["StyleSheet", ...]) -> Winning:
+    def _winning(self, media: Media, sheets: Tuple["StyleSheet", ...], any_value: bool) -> Winning:
         """Returns the rules of this sheet, and of others with it, that apply on a device."""
         self._check_limit()
         if not isinstance(media, Device) and callable(media):
-            return self._winning_by(media, sheets)
-        key = (device_of(media), sheets[:-1])
+            return self._winning_by(media, sheets, any_value)
+        key = (device_of(media), sheets[:-1], any_value)
         found = self._winning_on.get(key)
         if found is None:
-            found = self._winning_on[key] = self._winning_by(key[0], sheets)
+            found = self._winning_on[key] = self._winning_by(key[0], sheets, any_value)
         return found
 
-    def _winning_by(self, media: Media, sheets: Sequence["StyleSheet"]) -> Winning:
+    def _winning_by(self, media: Media, sheets: Sequence["StyleSheet"], any_value: bool) -> Winning:
         """Returns the rules of these sheets that apply, of which the limit is that of this one."""
         read: List[ReadSheet] = []
         pieces: List[Piece] = []
@@ -826,7 +877,7 @@ class StyleSheet:
             pieces += (each._replace(text=each.text + len(read)) for each in sheet._pieces)
             read += sheet._read_sheets()
         origins = [origin for sheet in sheets for origin in sheet._origins]
-        return Winning(read, pieces, origins, media, self._limit)
+        return Winning(read, pieces, origins, media, self._limit, any_value)
 
     def _winners_of_port(
         self, selectors: "_Selectors", lines: List[bytes], name: Optional[str]
@@ -857,6 +908,7 @@ class StyleSheet:
         inherit: Inherit = False,
         shorthands: bool = False,
         ua: bool = False,
+        any_value: bool = False,
     ) -> "ByElement[Optional[Declaration]]":
         """Returns for each element the winning declaration of the name, or `None`.
 
@@ -865,8 +917,8 @@ class StyleSheet:
         and a physical name, such as `margin-block-start` and `margin-top`, of both, as in horizontal text from
         left to right. A name compares in any case of
         its ASCII letters if it is not that of a custom property; by the grammar "simplecss", which has no
-        `shorthands`, it compares byte by byte. `media`, `specified`, `presentation`, `inherit` and `ua` are
-        those of `styles`.
+        `shorthands`, it compares byte by byte. `media`, `specified`, `presentation`, `inherit`, `ua` and
+        `any_value` are those of `styles`.
         """
         library.expect_text(name)
         if self._grammar == PORT:
@@ -874,11 +926,11 @@ class StyleSheet:
             hints = presentation if specified else None
             found = self._styles_of_port(tree, media, hints, name)
         else:
-            winning = self._compared_winning(tree, media, ua)
-            own = Own(tree, presentation) if specified else NO_OWN
+            hints = _hints_of(specified, presentation)
+            query = self._query(tree, media, ua, hints, any_value)
             names = names_setting(name) if shorthands else (name,)
             limit = max(self._answer_limit, library.USUAL_ANSWER_LIMIT)
-            every = winning.named(_elements_in(tree), own, names, limit)
+            every = query.named(names, limit)
             found = [[] if each is None else [each] for each in every]
         if inherit:
             found = inherited(tree, found, inherit, self._answer_limit)
@@ -894,12 +946,13 @@ class StyleSheet:
         presentation: Presentation = presentation_attributes,
         shorthands: bool = True,
         ua: bool = False,
+        any_value: bool = False,
     ) -> Explanation:
         """Explains which declaration of a property wins on an element: returns all that apply to it, the
         strongest first, each with the criterion by which it loses to the one before it (CSS Cascading 5,
         section 6.1), also those of the attribute `style`.
 
-        `shorthands`, `media`, `presentation` and `ua` are those of `style`. The grammar is "modern".
+        `shorthands`, `media`, `presentation`, `ua` and `any_value` are those of `style`. The grammar is "modern".
 
             >>> tree = simplecss.Tree.from_html("<p id=a>")
             >>> sheet = simplecss.StyleSheet("#a { color: red } p { color: blue }")
@@ -909,7 +962,7 @@ class StyleSheet:
         """
         if not isinstance(element, Element):
             raise TypeError(f"an Element is expected, not {type(element).__name__}")
-        options = (media, presentation, shorthands, ua)
+        options = (media, presentation, shorthands, ua, any_value)
         return self._explaining(element.tree, name, *options).explanation(element)
 
     def _explaining(
@@ -920,24 +973,39 @@ class StyleSheet:
         presentation: Presentation,
         shorthands: bool,
         ua: bool,
+        any_value: bool,
     ) -> Explaining:
         """Returns what explains a property on the elements of a tree."""
         library.expect_text(name)
         if self._grammar == PORT:
             raise ValueError("a sheet of the modern grammar is expected")
         elements, limit = elements_of(tree), self._answer_limit
-        winning = self._compared_winning(tree, media, ua)
+        winning = self._winning(media, (user_agent_sheet(tree), self) if ua else (self,), any_value)
         names = names_setting(name) if shorthands else (name,)
-        own = Own(tree, presentation)
-        found = OnElements(
-            own,
-            winning.named(elements, own, names, max(limit, library.USUAL_ANSWER_LIMIT)),
-            list(winning.matching(elements, limit)),
-            lambda: with_values(
-                tree, winning.on(elements, own, limit), list(self._registered(media)), limit
-            ),
+        found = elements.asked_last(
+            (winning, presentation),
+            lambda: self._on_elements(tree, winning, media, presentation, any_value),
         )
         return Explaining(name, names, winning, self._explained_texts(tree, ua), found, limit)
+
+    def _on_elements(
+        self,
+        tree: Tree,
+        winning: Winning,
+        media: Media,
+        presentation: Presentation,
+        any_value: bool,
+    ) -> OnElements:
+        """Returns what elements of a tree have by these rules."""
+        elements, limit = elements_of(tree), self._answer_limit
+        query = winning.on(elements, Own(tree, presentation, any_value))
+        styles = ResolvedElements(
+            elements.parents,
+            lambda index: query.winners(limit, range(index, index + 1))[0],
+            list(self._registered(media)),
+            limit,
+        )
+        return OnElements(query.own, query, styles)
 
     def _explained_texts(self, tree: Tree, ua: bool) -> List[Text]:
         """Returns the texts of this sheet, after those of the user agent if they take part."""
@@ -988,6 +1056,15 @@ def _origins_of(origins: Sequence[str], count: int, grammar: str) -> Tuple[str, 
     return (*origins, *(AUTHOR,) * (count - len(origins)))
 
 
+def _hints_of(specified: bool, presentation: Presentation) -> Optional[Presentation]:
+    """Returns what makes presentation declarations, if they take part. One that is not the package's own is another
+    each time, since it may answer otherwise."""
+    if not specified:
+        return None
+    is_own = presentation is presentation_attributes
+    return presentation if is_own else functools.partial(presentation)
+
+
 def _elements_in(tree: Tree) -> Elements:
     """Returns the elements of what is to be a tree."""
     if not isinstance(tree, Tree):
@@ -1014,7 +1091,56 @@ def explaining_of(
     sheet: StyleSheet, tree: Tree, name: str, media: Media, ua: bool = False
 ) -> Explaining:
     """Returns what explains a property on elements of a tree, as `explain` of the sheet does."""
-    return sheet._explaining(tree, name, media, presentation_attributes, True, ua)
+    return sheet._explaining(tree, name, media, presentation_attributes, True, ua, False)
+
+
+def conditions_of(sheet: StyleSheet) -> Set[Condition]:
+    """Returns the group rules of a sheet, and those that all of one of its texts is in."""
+    found = set(itertools.chain.from_iterable(sheet._conditions))
+    for source, _ in sheet._statements():
+        edges = Contents(source).rules() if b"@" in source.data else ()
+        found.update(each.condition for each in edges if each is not None and each.condition)
+    return found
+
+
+class Won:
+    """What wins on the elements of a tree by the rules of a sheet."""
+
+    def __init__(self, sheet: StyleSheet, tree: Tree, own: Own, media: Media) -> None:
+        """Takes a sheet, a tree with these declarations of its own, and a device."""
+        query = sheet._winning(media, (sheet,), False).on(elements_of(tree), own)
+        self._query = sheet._compared(tree, media, (sheet,), query)
+        self._winning = query.cascade
+        self._texts = sheet._explained_texts(tree, False)
+        self._limit = sheet._answer_limit
+
+    @property
+    def declared(self) -> List[Declaration]:
+        """The declarations of the rules."""
+        return self._winning.declared
+
+    @property
+    def rolls_back(self) -> bool:
+        """Whether a declaration of a rule rolls back others."""
+        return self._winning.rolls_back
+
+    def winners(self) -> "Iterator[array.array[int]]":
+        """Yields for each element where each declaration that wins is, and its place there."""
+        return self._query.winning(self._limit)
+
+    def named(self, names: Iterable[str]) -> Iterator[Tuple[int, int]]:
+        """Returns the same of the one that wins of those with these names, if one does."""
+        return self._query.named_at(names, max(self._limit, library.USUAL_ANSWER_LIMIT))
+
+    def at(self, index: int, source: int, place: int) -> Optional[Declaration]:
+        """Returns the declaration of an element there, which has a place if it is in a rule, or `None`."""
+        found = self._query.at(index, source, place)
+        if found is None or source >= len(self._winning.rules):
+            return found
+        rule = self._winning.rules[source]
+        text = self._texts[rule.sheet]
+        span = rule.declarations.span(place)
+        return placed(found, At(text.source, text.number, text.url, *span))
 
 
 def text_of(sheet: StyleSheet) -> str:
@@ -1119,6 +1245,7 @@ def _declaration_of_port(lines: Lines) -> Declaration:
 def _rules_of(
     sets: Iterable[Tuple[Place, RuleSet, bool, Tuple[Condition, ...]]],
     supported: Container[Tuple[Place, str]],
+    at: Callable[[int, Span], At],
 ) -> Tuple[List[Tuple[Place, Rule]], List[Tuple[Place, Unsupported]]]:
     """Returns the rules of rule sets, of those that have them, and the unsupported ones of all, but for
     those of these places with these selectors, and where each is. Each rule set is with the conditions
@@ -1126,31 +1253,43 @@ def _rules_of(
     rules: List[Tuple[Place, Rule]] = []
     unsupported: List[Tuple[Place, Unsupported]] = []
     for place, found, has_rules, outer in sets:
-        declarations, conditions = found.declarations, outer + found.conditions
+        conditions = outer + found.conditions
+        declarations = tuple(
+            placed(Declaration(*each.declaration), at(place[0], each.span))
+            for each in found.items
+            if isinstance(each, ReadDeclaration)
+        )
         for each in found.selectors:
+            whole = at(place[0], (each.span[0], found.span[1]))
             if each.specificity is None:
                 if (place, each.text) not in supported:
                     other = Unsupported(each.text, declarations, conditions)
-                    unsupported.append((place, other))
+                    unsupported.append((place, placed(other, whole)))
                 continue
             if has_rules:
                 element = each.pseudo_element
                 rule = Rule(each.front, each.specificity, declarations, conditions, element)
-                rules.append((place, rule))
+                rules.append((place, placed(rule, whole)))
     return rules, unsupported
 
 
-def _nested_rule(placed: PlacedRule, text: str, block: Block, outer: Tuple[Condition, ...]) -> Rule:
-    """Returns a rule in this block, whose selector has this text."""
+def _nested_rule(
+    found: PlacedRule,
+    text: str,
+    block: Block,
+    outer: Tuple[Condition, ...],
+    declarations: Tuple[Declaration, ...],
+) -> Rule:
+    """Returns a rule in this block, whose selector has this text, with these declarations."""
     element = None
-    if placed.element_length:
+    if found.element_length:
         data = library.encode(text)
-        element = data[len(data) - placed.element_length :].decode("utf-8")
+        element = data[len(data) - found.element_length :].decode("utf-8")
         text = before_element(text, len(text) - len(element))
     return Rule(
         text,
-        placed.specificity,
-        tuple(placed.declarations),
+        found.specificity,
+        declarations,
         outer + block.conditions,
         element,
         block.parents,
@@ -1250,4 +1389,5 @@ def _sheet_of(
 ) -> StyleSheet:
     sheet = sheet_of_texts(texts, origins=origins, grammar=grammar)
     sheet._limit, sheet._answer_limit = limit, answer_limit
+    sheet._is_within_limit = False
     return sheet._of_page(*page)

@@ -9,6 +9,7 @@ from typing import (
     Dict,
     FrozenSet,
     Iterable,
+    Iterator,
     List,
     Mapping,
     Optional,
@@ -21,6 +22,7 @@ from ._declaration import Declaration, cascaded
 from ._library import Room, expect_text
 from ._presenting import presented_by
 from ._reading import declarations
+from ._taken import taken_of_style
 from ._tree import Element, Tree, elements_of, plain_attributes
 from ._words import BLANKS, lower
 
@@ -73,15 +75,19 @@ class Own:
     """The declarations of elements that are in no rule: of their attribute `style`, and presentation
     declarations."""
 
-    def __init__(self, tree: Iterable[Element], presentation: Presentation) -> None:
+    def __init__(
+        self, tree: Iterable[Element], presentation: Presentation, any_value: bool
+    ) -> None:
+        """Reads them, without those of a `style` whose values no browser takes unless any may be."""
         self._texts: List[bytes] = []
         self._known: Dict[bytes, List[Declaration]] = {}
         for element in tree:
-            style = plain_attributes(element).get("style", "")
+            text = library.encode(plain_attributes(element).get("style", ""))
+            style = text if any_value else taken_of_style(text)
             pairs = presentation(element).items()
             hints = (_presented(name, value) for name, value in pairs)
             presented = "".join(_text_of(each) for each in hints if each is not None)
-            self._texts += (library.encode(style), library.encode(presented))
+            self._texts += (style, library.encode(presented))
         self.arrays = library.OwnArrays(self._texts if any(self._texts) else [])
 
     def texts_of(self, index: int) -> Tuple[bytes, ...]:
@@ -96,6 +102,11 @@ class Own:
         """Returns the presentation declarations of an element."""
         return self._declared(self._texts[2 * index + 1])
 
+    def declarations(self) -> Iterator[Declaration]:
+        """Yields the declarations of all elements, of equal texts once."""
+        for text in dict.fromkeys(self._texts):
+            yield from self._declared(text)
+
     def _declared(self, text: bytes) -> List[Declaration]:
         found = self._known.get(text)
         if found is None:
@@ -104,7 +115,7 @@ class Own:
 
 
 # Elements that have none.
-NO_OWN = Own((), presentation_attributes)
+NO_OWN = Own((), presentation_attributes, any_value=True)
 
 
 def specified_by(

@@ -15,6 +15,8 @@ _KINDS = (
     "whitespace comment ident function at-keyword hash id string bad-string url bad-url number"
     " percentage dimension cdo cdc delim".split()
 )
+# How a text is written with escapes, as the library numbers it; without them, it is 0 for a name, and 1 in a string.
+_IDENTIFIER, _QUOTED = 2, 3
 _AT_KEYWORD = _KINDS.index("at-keyword")
 _OPENING, _CLOSING = frozenset("([{"), frozenset(")]}")
 # What may be between two tokens.
@@ -142,7 +144,7 @@ def decoded(text: str, in_string: bool = False) -> str:
     """Returns what a name denotes, or what is between the quotes of a string: its escapes are
     decoded."""
     data = library.encode(text)
-    return _written("simplecss_decode", data, int(in_string), room=16 + 3 * len(data))
+    return _spelled(data, int(in_string), room=16 + 3 * len(data))
 
 
 def is_escaping(text: str) -> bool:
@@ -167,16 +169,17 @@ def escape(name: str) -> str:
     `CSS.escape` of browsers returns the same. NUL is U+FFFD. A lone surrogate raises `ValueError`.
     """
     data = library.encode(name)
-    return _written("simplecss_escape", data, room=16 + 4 * len(data))
+    return _spelled(data, _IDENTIFIER, room=16 + 4 * len(data))
 
 
 def quote(text: str) -> str:
     """Returns a string in double quotes that denotes the text. NUL is U+FFFD. A lone surrogate raises
     `ValueError`."""
     data = library.encode(text)
-    return _written("simplecss_quote", data, room=16 + 4 * len(data))
+    return _spelled(data, _QUOTED, room=16 + 4 * len(data))
 
 
-def _written(name: str, *words: object, room: int) -> str:
-    """Returns the text that a call writes."""
-    return library.output_of(name, library.call(name, *words, room=room)).decode()
+def _spelled(data: bytes, asked: int, room: int) -> str:
+    """Returns a text with its escapes decoded, or with escapes, by a number of the library."""
+    name = "simplecss_spell"
+    return library.output_of(name, library.call(name, data, asked, room=room)).decode()

@@ -34,7 +34,7 @@ from ._html import HtmlPage
 from ._selectors import MODERN, Reading, Selectors
 from ._spaced import SVG_SPACE, has_link, parted
 from ._words import words_of
-from ._xml import SheetLink, XmlError, read_xml
+from ._xml import SheetLink, XmlError, XmlPage
 
 # The nodes of BeautifulSoup that are no elements and no texts.
 _NO_TEXTS = frozenset(
@@ -131,6 +131,11 @@ class Element(_Within):
         return self.tree._elements.names[self.index]
 
     @property
+    def namespace(self) -> Optional[str]:
+        """The namespace, if it is in one."""
+        return self.tree._elements.namespace_of(self.index)
+
+    @property
     def attributes(self) -> Dict[str, str]:
         """The attributes, which must not be changed."""
         return self.tree._elements.attributes[self.index]
@@ -170,6 +175,22 @@ class Element(_Within):
     def source(self) -> Optional[str]:
         """The source of the element, or `None` if the tree was not read from a text."""
         return self.tree._elements.source_of(self.index)
+
+    @property
+    def start_tag(self) -> Optional[Tuple[int, int]]:
+        """Where its start tag begins and ends in the text that the tree was read from, if it has one there. Several
+        elements may have one."""
+        return self.tree._elements.start_tag_of(self.index)
+
+    @property
+    def end_tag(self) -> Optional[Tuple[int, int]]:
+        """Where its end tag begins and ends there, if it has one."""
+        return self.tree._elements.end_tag_of(self.index)
+
+    @property
+    def attribute_places(self) -> Dict[str, Tuple[int, int]]:
+        """Where its attributes are there, by their names: each from its name to the end of its value, with quotes."""
+        return self.tree._elements.attribute_places_of(self.index)
 
     @property
     def row(self) -> Optional[int]:
@@ -301,6 +322,7 @@ class Tree(_Within):
         states: Optional[States] = None,
         *,
         is_part: bool = False,
+        context: Optional[str] = None,
         encoding: Optional[str] = None,
     ) -> "Tree":
         """Reads an HTML document, as a browser does without scripts.
@@ -312,9 +334,16 @@ class Tree(_Within):
 
         Names are in lower case, and the elements that a text leaves out (`html`, `head`, `body`,
         `tbody`) are added. The content of a `template` is left out. `a` and `area` with `href` are
-        links. `states` maps selectors to the states of the elements that they match. `is_part`
-        reads the content of a `body`, and adds no `html`, `head` and `body`.
+        links. `states` maps selectors to the states of the elements that they match.
+
+        `context` is the element of HTML whose content the text is, such as "td", or its start tag without `<` and
+        `>`. `is_part` is the context "body".
         """
+        if is_part and context is not None:
+            raise TypeError("is_part is a context of its own")
+        if context is not None:
+            library.expect_text(context)
+        within = "body" if is_part else context
         if encoding is not None:
             library.expect_text(encoding)
         if isinstance(text, bytes):
@@ -326,7 +355,7 @@ class Tree(_Within):
             expect_page(text)
         tree = cls()
         try:
-            tree._elements = Elements(HtmlPage(text, is_part=is_part))
+            tree._elements = Elements(HtmlPage(text, context=within))
         except UnicodeEncodeError as error:
             raise TreeError(f"a text is not Unicode: {error.reason}", None, None) from None
         return tree._with_states(states)
@@ -341,10 +370,10 @@ class Tree(_Within):
         expect_page(text)
         tree = cls()
         try:
-            found = read_xml(text)
+            page = XmlPage(text)
         except XmlError as error:
             raise TreeError(error.reason, error.row, error.column) from None
-        tree._elements.take_tags(found, text)
+        tree._elements.take_document(page)
         return tree._with_states(states)
 
     @classmethod

@@ -5,6 +5,7 @@ from __future__ import annotations
 import array
 import functools
 import itertools
+import weakref
 from typing import (
     Callable,
     Dict,
@@ -22,6 +23,8 @@ from ._declaration import Declaration
 from ._device import LAYER, Media, holds
 from ._linked import Piece
 from ._elements import Elements
+from ._kept import EXPLAINED, MATCHES, NO_NAMES, RULES, WINNERS, WINNERS_NAMED
+from ._kept import KeptQuery, sheets_query
 from ._reading import (
     Condition,
     Contents,
@@ -32,16 +35,22 @@ from ._reading import (
 from ._selectors import Specificity
 from ._spaced import HTML_SPACE
 from ._specified import Own
+from ._taken import taken
+from ._values import has_ident
 
 # How many numbers the library writes of a rule before those of its declarations, of each of these,
-# and of a declaration that wins.
-_OF_RULE, _OF_DECLARATION, _OF_WINNER = 9, 6, 2
+# of a declaration that wins, and of one that is explained.
+_OF_RULE, _OF_DECLARATION, _OF_WINNER, _OF_EXPLAINED = 9, 6, 2, 3
+# How many numbers of what wins on an element there is room for at first.
+_ROOM_FOR_ELEMENT = 64
 # What a sheet has: its text, and the group rules that all of it is in.
 ReadSheet = Tuple[Source, Tuple[Outer, ...]]
 Applies = Callable[[Condition], bool]
+# What undoes the declarations of an origin or a layer.
+_ROLLS_BACK = frozenset(("revert", "revert-layer"))
 # The origins of sheets, and how the library numbers them.
-ORIGINS: Dict[str, int] = {"author": 0, "user": 1, "user-agent": 2}
-AUTHOR = "author"
+AUTHOR, USER_AGENT = "author", "user-agent"
+ORIGINS: Dict[str, int] = {AUTHOR: 0, "user": 1, USER_AGENT: 2}
 
 
 class Declarations:
@@ -69,6 +78,11 @@ class Declarations:
         """Returns the offset at which a declaration begins, in bytes."""
         return self._numbers[_OF_DECLARATION * place]
 
+    def span(self, place: int) -> Tuple[int, int]:
+        """Returns where a declaration is, up to the end of its value."""
+        row = self._numbers[_OF_DECLARATION * place : _OF_DECLARATION * (place + 1)]
+        return row[0], row[2] + row[3]
+
     def _make(self, at: int) -> Declaration:
         name, name_length, value, value_length, is_important, is_closed = self._numbers[
             at : at + _OF_DECLARATION
@@ -92,6 +106,11 @@ class PlacedRule(NamedTuple):
     specificity: Specificity
     selector_length: int
     element_length: int
+
+
+def roll_back(declarations: Iterable[Declaration]) -> bool:
+    """Whether a declaration rolls back others."""
+    return any(has_ident(each.value, _ROLLS_BACK) for each in declarations)
 
 
 def _held(source: Source, applies: Applies) -> Iterator[Condition]:
@@ -133,18 +152,21 @@ class Winning:
         origins: Sequence[str],
         media: Media,
         limit: int,
+        any_value: bool,
     ) -> None:
-        """Reads the pieces of sheets, of these origins. Rules with more declarations than `limit` raise
-        `LimitError`."""
+        """Takes the pieces of sheets, of these origins, which are read when they are asked, without declarations whose
+        values no browser takes unless any may be. Rules with more declarations than `limit` raise `LimitError` then.
+        """
         applies = functools.lru_cache(maxsize=None)(functools.partial(holds, media=media))
         groups = _groups_in(sheets, applies)
         words = [library.encode(word) for each in groups for word in each.condition]
+        data = [
+            each[0].data if any_value or origin == USER_AGENT else taken(each[0].data)
+            for each, origin in zip(sheets, origins)
+        ]
         # Where an offset is in a piece, it is in the sheet.
         parts = [
-            (
-                each.text,
-                b" " * each.start + sheets[each.text][0].data[each.start : each.end],
-            )
+            (each.text, b" " * each.start + data[each.text][each.start : each.end])
             for each in pieces
         ]
         # The numbers of the sheets that the pieces are of.
@@ -163,19 +185,36 @@ class Winning:
         self._sheets = sheet_arrays.with_namespaces([library.encode(HTML_SPACE)])
         self._size = sum(len(text) for _, text in parts)
         self._limit = limit
-        self.rules = list(self._read([each[0] for each in sheets], limit))
-        # How many declarations the rules have.
-        self.count = sum(len(each.declarations) for each in self.rules)
+        self._sources = [source for source, _ in sheets]
+        # Returns what the library keeps of the sheets, while something else has it.
+        self._last: Callable[[], Optional[KeptQuery]] = lambda: None
+        # The layers of the places of rules, where they were looked up.
+        self.layers: Optional[Dict[Tuple[int, int], Optional[str]]] = None
 
-    def _read(self, sources: Sequence[Source], limit: int) -> Iterator[PlacedRule]:
+    @functools.cached_property
+    def rules(self) -> List[PlacedRule]:
+        """The rules."""
+        return list(self._read())
+
+    @functools.cached_property
+    def count(self) -> int:
+        """How many declarations the rules have."""
+        return sum(len(each.declarations) for each in self.rules)
+
+    def _kept(self) -> KeptQuery:
+        """Returns what the library keeps of the sheets: on the elements that were asked last, or on none."""
+        last = self._last()
+        return sheets_query(self._sheets, self._limit) if last is None or last.is_left else last
+
+    def _read(self) -> Iterator[PlacedRule]:
         """Yields the rules."""
-        readers = list(map(DeclarationReader, sources))
+        readers = list(map(DeclarationReader, self._sources))
         # The declarations of each block, which the rules of a rule set share.
         blocks: Dict[Tuple[int, int], Declarations] = {}
         # Most rules have one of few.
         specificities: Dict[Specificity, Specificity] = {}
         room = 1024 + self._size
-        numbers = library.numbers_of("simplecss_rules", self._sheets, limit, room=room)
+        numbers = self._kept().numbers(RULES, 0, 0, room=room)
         at = 0
         while at < len(numbers):
             piece, start, _, length, element, ids, classes, types, count = numbers[
@@ -192,79 +231,153 @@ class Winning:
             yield PlacedRule(number, start, block, weight, length, element)
             at = end
 
-    def texts(self) -> List[str]:
+    @functools.cached_property
+    def selectors(self) -> List[str]:
         """Returns the text of each rule's selector, with its pseudo-element."""
-        name = "simplecss_rule_texts"
         room, most = 1024 + 2 * self._size, library.most_written(self._size)
-        answer = library.call(name, self._sheets, self._limit, room=room, most=most)
-        every = library.output_of(name, answer)
+        every = self._kept().texts(most, room)
         ends = itertools.accumulate(each.selector_length for each in self.rules)
         return [
             every[end - rule.selector_length : end].decode("utf-8")
             for rule, end in zip(self.rules, ends)
         ]
 
-    def matching(self, elements: Elements, limit: int) -> Iterator["array.array[int]"]:
-        """Yields for each element the numbers of the rules that match it, or whose pseudo-elements it
-        has, in the order of the cascade. More rules than `limit` raise `LimitError`."""
-        numbers = elements.numbers("simplecss_matches", self._sheets, (), 1, limit)
-        at = 0
-        while at < len(numbers):
-            end = at + 1 + numbers[at]
-            yield numbers[at + 1 : end]
-            at = end
+    @functools.cached_property
+    def declared(self) -> List[Declaration]:
+        """The declarations of the rules. Those that rules of a rule set share are there once."""
+        blocks = {id(each.declarations): each.declarations for each in self.rules}
+        return list(itertools.chain.from_iterable(blocks.values()))
 
-    def on(self, elements: Elements, own: Own, limit: int) -> List[List[Declaration]]:
-        """Returns what wins on each element, which have these of their own, in the order of the cascade.
-        More declarations than `limit` raise `LimitError`."""
-        words = (own.arrays,)
-        numbers = elements.numbers("simplecss_winners", self._sheets, words, _OF_WINNER, limit)
-        return list(self._winners(numbers, own))
+    @functools.cached_property
+    def rolls_back(self) -> bool:
+        """Whether a declaration rolls back others."""
+        return roll_back(self.declared)
+
+    def on(self, elements: Elements, own: Own) -> Query:
+        """Returns these rules on elements, which have these of their own."""
+        return Query(self, elements, own)
+
+    def query(self, elements: Elements, own: Own) -> KeptQuery:
+        """Returns what the library keeps of these sheets on elements."""
+        found = elements.query(self._sheets, self._limit, own.arrays)
+        self._last = weakref.ref(found)
+        return found
+
+
+class Query:
+    """Rules on the elements of a tree, as the library keeps them: what wins, and what matches."""
+
+    def __init__(self, winning: Winning, elements: Elements, own: Own) -> None:
+        self.cascade, self._elements, self.own = winning, elements, own
+        self._kept = winning.query(elements, own)
+        # What was found of the declarations with the names that were explained last, by element.
+        self._explained: Tuple[Tuple[str, ...], Dict[int, "array.array[int]"]] = (
+            (),
+            {},
+        )
+
+    def _asked(self) -> KeptQuery:
+        """Returns what is asked, which a fork may have left behind."""
+        if self._kept.is_left:
+            self._kept = self.cascade.query(self._elements, self.own)
+        return self._kept
+
+    def _numbers(
+        self,
+        asked: int,
+        where: range,
+        width: int,
+        limit: int,
+        names: library.AskedArrays = NO_NAMES,
+    ) -> "array.array[int]":
+        """Returns how many winners or rules each element of a range has, and so many numbers for each of these. More of
+        them than `limit` raise `LimitError`."""
+        room = 1024 + _ROOM_FOR_ELEMENT * len(where)
+        most = min(len(self._elements) + width * limit, library.NO_LIMIT)
+        try:
+            kept = self._asked()
+            return kept.numbers(asked, where.start, where.stop, most, names=names, room=room)
+        except library.LimitError:
+            raise library.Room(limit).passed() from None
+
+    def matching(self, limit: int, where: Optional[range] = None) -> Iterator["array.array[int]"]:
+        """Yields for each element, or for those of a range, the numbers of the rules that match it, or whose
+        pseudo-elements it has, in the order of the cascade. More rules than `limit` raise `LimitError`.
+        """
+        return _lines(self._numbers(MATCHES, self._range(where), 1, limit), 1)
+
+    def winning(self, limit: int) -> Iterator["array.array[int]"]:
+        """Yields for each element two numbers of each declaration that wins, in the order of the cascade: where it is,
+        and its place there. More declarations than `limit` raise `LimitError`."""
+        return _lines(self._numbers(WINNERS, self._range(None), _OF_WINNER, limit), _OF_WINNER)
+
+    def winners(self, limit: int, where: Optional[range] = None) -> List[List[Declaration]]:
+        """Returns what wins on each element, or on those of a range, in the order of the cascade. More declarations
+        than `limit` raise `LimitError`."""
+        those = self._range(where)
+        return list(self._winners(those, self._numbers(WINNERS, those, _OF_WINNER, limit)))
 
     def named(
-        self, elements: Elements, own: Own, names: Iterable[str], limit: int
+        self, names: Iterable[str], limit: int, where: Optional[range] = None
     ) -> List[Optional[Declaration]]:
-        """Returns for each element the declaration that wins of those that have one of these names."""
+        """Returns for each element, or for those of a range, the declaration that wins of those that have one of these
+        names."""
+        those = self._range(where)
+        pairs = self.named_at(names, limit, those)
+        return [self.at(index, *pair) for index, pair in zip(those, pairs)]
+
+    def named_at(
+        self, names: Iterable[str], limit: int, where: Optional[range] = None
+    ) -> Iterator[Tuple[int, int]]:
+        """Returns for each element two numbers of the declaration that wins of those that have one of these names, as
+        `winning` does. If there is none, `at` returns none for them."""
         asked = library.AskedArrays([list(map(library.encode, names))])
-        words = (own.arrays, asked)
-        numbers = elements.numbers(
-            "simplecss_winners_named", self._sheets, words, _OF_WINNER, limit
-        )
-        pairs = zip(numbers[::_OF_WINNER], numbers[1::_OF_WINNER])
-        return [self._at(own, index, *pair) for index, pair in enumerate(pairs)]
+        numbers = self._numbers(WINNERS_NAMED, self._range(where), _OF_WINNER, limit, asked)
+        return zip(numbers[::_OF_WINNER], numbers[1::_OF_WINNER])
 
-    def explained(
-        self, matching: "array.array[int]", own: Tuple[bytes, ...], names: Iterable[str]
-    ) -> "array.array[int]":
-        """Returns three numbers of each declaration that has one of these names, of those of the rules that
-        match an element and of these texts of its own, the strongest first: where it is, its place there,
-        and by what it loses to the one before it."""
-        words = list(map(library.encode, names))
-        ends = library.ends_of(map(len, words))
-        arguments = (self._sheets, self._limit, matching, library.OwnArrays(own))
-        return library.numbers_of("simplecss_explain", *arguments, b"".join(words), ends, room=1024)
+    def explained(self, names: Sequence[str], index: int, limit: int) -> "array.array[int]":
+        """Returns three numbers of each declaration that has one of these names and applies to an element, the
+        strongest first: where it is, its place there, and by what it loses to the one before it. More of them than
+        `limit` raise `LimitError`."""
+        if self._explained[0] != tuple(names):
+            self._explained = tuple(names), {}
+        known = self._explained[1]
+        found = known.get(index)
+        if found is None:
+            asked = library.AskedArrays([list(map(library.encode, names))])
+            where = range(index, index + 1)
+            found = self._numbers(EXPLAINED, where, _OF_EXPLAINED, limit, asked)[1:]
+            known[index] = found
+        return found
 
-    def _at(self, own: Own, index: int, source: int, place: int) -> Optional[Declaration]:
-        """Returns the declaration that the library says wins on an element."""
-        if source < len(self.rules):
-            return self.rules[source].declarations.at(place)
-        if source == len(self.rules):
+    def _range(self, where: Optional[range]) -> range:
+        return range(len(self._elements)) if where is None else where
+
+    def at(self, index: int, source: int, place: int) -> Optional[Declaration]:
+        """Returns the declaration of an element of these numbers, if there is one."""
+        rules, own = self.cascade.rules, self.own
+        if source < len(rules):
+            return rules[source].declarations.at(place)
+        if source == len(rules):
             return own.styled(index)[place]
-        return own.presented(index)[place] if source == len(self.rules) + 1 else None
+        return own.presented(index)[place] if source == len(rules) + 1 else None
 
-    def _winners(self, numbers: "array.array[int]", own: Own) -> Iterator[List[Declaration]]:
-        """Yields the declarations that win on each element. Many have the same."""
-        at = 0
+    def _winners(self, where: range, numbers: "array.array[int]") -> Iterator[List[Declaration]]:
+        """Yields the declarations that win on each element of a range. Many have the same."""
         known: Dict[Tuple[bytes, ...], List[Declaration]] = {}
-        for index in itertools.count():
-            if at >= len(numbers):
-                return
-            end = at + 1 + _OF_WINNER * numbers[at]
-            key = (numbers[at:end].tobytes(), *own.texts_of(index))
+        for index, line in zip(where, _lines(numbers, _OF_WINNER)):
+            key = (line.tobytes(), *self.own.texts_of(index))
             found = known.get(key)
             if found is None:
-                pairs = zip(numbers[at + 1 : end : 2], numbers[at + 2 : end : 2])
-                each = (self._at(own, index, *pair) for pair in pairs)
+                each = (self.at(index, *pair) for pair in zip(line[0::2], line[1::2]))
                 found = known[key] = [one for one in each if one is not None]
             yield found.copy()
-            at = end
+
+
+def _lines(numbers: "array.array[int]", width: int) -> Iterator["array.array[int]"]:
+    """Yields what the library writes of each element: so many numbers for each of as many as it says first."""
+    at = 0
+    while at < len(numbers):
+        end = at + 1 + width * numbers[at]
+        yield numbers[at + 1 : end]
+        at = end

@@ -2,17 +2,16 @@
 
 from __future__ import annotations
 
-from typing import Dict, Iterator, List, NamedTuple, Optional, Tuple
+import bisect
+import itertools
+import re
+from typing import Dict, Iterable, Iterator, List, NamedTuple, Tuple
 
+from . import _library as library
+from ._html import OF_ATTRIBUTE, OF_ELEMENT, OF_OTHER, HtmlPage, Span
 from ._patterns import pattern
-from ._spaced import Attributes, SpacedAttribute, has_link
+from ._spaced import SpacedAttribute
 from ._words import lower
-
-# How many characters entities may add to a document, and attributes of their own beside those that
-# it has; and how long the name of a namespace may be. Each stands for its text wherever it is
-# named.
-_MOST_ADDED = 1_000_000
-_LONGEST_SPACE = 1_000
 
 
 class XmlError(ValueError):
@@ -23,40 +22,6 @@ class XmlError(ValueError):
         self.reason = reason
         self.row = row
         self.column = column
-
-
-class XmlTag:
-    """An element: its local name, its attributes by local names, and as they are if some are in
-    namespaces, its parent's index or -1, where its start tag begins and ends, and where the element
-    ends, as offsets in the text.
-    """
-
-    __slots__ = (
-        "name",
-        "prefix",
-        "attributes",
-        "spaced",
-        "parent",
-        "row",
-        "column",
-        "start",
-        "inner",
-        "end",
-        "inner_end",
-        "is_link",
-        "space",
-    )
-
-    def __init__(self, name: str, prefix: str, space: str, parent: int) -> None:
-        self.name = name
-        self.prefix = prefix
-        self.space = space
-        self.attributes: Dict[str, str] = {}
-        self.spaced: Optional[Attributes] = None
-        self.parent = parent
-        self.row = self.column = 0
-        self.start = self.inner = self.inner_end = self.end = 0
-        self.is_link = False
 
 
 class SheetLink(NamedTuple):
@@ -102,185 +67,112 @@ class SheetLink(NamedTuple):
 
 def _attributes_in(data: str) -> Dict[str, str]:
     """Returns the attributes in the text of an instruction, or none if it has anything else."""
-    from xml.parsers import expat
-
-    found: List[Dict[str, str]] = []
-    parser = expat.ParserCreate("utf-8")
-    parser.StartElementHandler = lambda _, attributes: found.append(attributes)
     try:
-        parser.Parse(f"<x {data}/>".encode("utf-8"), True)
-    except expat.ExpatError:
+        found = XmlPage(f"<x {data}/>").every_attribute()
+    except XmlError:
         return {}
-    return found[0] if len(found) == 1 else {}
+    return {name: value for _, name, value in found[0]} if len(found) == 1 else {}
 
 
-class XmlDocument(NamedTuple):
-    """The elements in document order; the texts, each with how many elements begin before it and the
-    element that it is in; and the style sheets that instructions name."""
-
-    tags: List[XmlTag]
-    texts: List[Tuple[int, int, str]]
-    links: List[SheetLink]
-
-
-class _Offsets:
-    """Finds the offset of a character by that of its byte in UTF-8, for offsets that do not
-    fall."""
-
-    def __init__(self, text: str) -> None:
-        self.is_same = text.isascii()
-        self.data = b"" if self.is_same else text.encode("utf-8")
-        self.byte = self.character = 0
-
-    def of(self, byte: int) -> int:
-        """Returns the offset of the character at a byte."""
-        if self.is_same:
-            return byte
-        if byte <= self.byte:
-            return self.character
-        self.character += len(self.data[self.byte : byte].decode("utf-8", "replace"))
-        self.byte = byte
-        return self.character
+# A new line of XML.
+_LINE = pattern("\\r\\n|\\r|\\n")
+# An instruction that names a style sheet, from its target on.
+_SHEET = pattern(r"<\?xml-stylesheet[\t\n\r ](.*)\?>", re.DOTALL)
+# The kind of other nodes that are instructions, and the number of the namespace of declarations of prefixes.
+_INSTRUCTION, _DECLARING = 5, 2
+# What is wrong with a document, by the numbers that the library has for it.
+_REASONS = (
+    "not well-formed",
+    "a character that XML does not have",
+    "markup that is not closed",
+    "a start tag that is not well-formed",
+    "an end tag that does not match",
+    "no element, or one that is not closed",
+    "a second root element",
+    "text outside of the root, or with a `&` or `]]>` that is not well-formed",
+    "a processing instruction that is not well-formed, or not at its place",
+    "a document type that is not well-formed, or declares entities or attributes",
+    "two attributes of one name",
+    "a prefix that is not declared",
+)
 
 
-_TAG = pattern(r"""<(?:[^"'>]|"[^"]*"|'[^']*')*>""")
-# The entities of every document, each of one character.
-_OF_XML = frozenset(("amp", "lt", "gt", "apos", "quot"))
-_REFERENCE = pattern("&([^#&;< ][^&;< ]*);")
-
-
-class _Reader:
-    """Collects the elements of a document."""
+class XmlPage(HtmlPage):
+    """A document in XML, as the library reads it: its elements and its other nodes in document order."""
 
     def __init__(self, text: str) -> None:
+        """Reads a document. One that is not well-formed raises `XmlError`."""
         self.text = text
-        self.offsets = _Offsets(text)
-        self.tags: List[XmlTag] = []
-        self.texts: List[Tuple[int, int, str]] = []
-        self.links: List[SheetLink] = []
-        self.is_in_doctype = False
-        self.open: List[int] = []
-        # The lengths of the document's own entities, and how long attributes may yet be.
-        self.entities: Dict[str, int] = {}
-        self.room = len(text) + _MOST_ADDED
-        self.spaces: Dict[str, str] = {}
-        # A module that is not needed for HTML.
-        from xml.parsers import expat
-
-        # Names are not kept by the parser, which would repeat the namespace in each.
-        self.parser = expat.ParserCreate("utf-8", "}", None)
-        self.parser.namespace_prefixes = True
-        self.parser.ordered_attributes = True
-        self.parser.buffer_text = True
-        self.parser.EntityDeclHandler = self._declare
-        self.parser.StartDoctypeDeclHandler = self._begin_doctype
-        self.parser.EndDoctypeDeclHandler = self._end_doctype
-        self.parser.ProcessingInstructionHandler = self._instruct
-        self.parser.StartNamespaceDeclHandler = self._name_space
-        self.parser.StartElementHandler = self._start
-        self.parser.EndElementHandler = self._end
-        self.parser.CharacterDataHandler = self._text
-
-    def read(self) -> XmlDocument:
-        """Reads the document."""
-        from xml.parsers.expat import ErrorString, ExpatError
-
+        self._data = library.encode(text)
         try:
-            self.parser.Parse(self.text.encode("utf-8"), True)
-        except ExpatError as error:
-            reason = ErrorString(error.code) or "not well-formed"
-            raise XmlError(reason, error.lineno, error.offset + 1) from None
-        return XmlDocument(self.tags, self.texts, self.links)
+            self._numbers, self._data_of_strings = library.document_of(self._data)
+        except library.NotWellFormed as error:
+            row, column = self._positions([self.place(error.offset)])[0]
+            raise XmlError(_REASONS[error.reason], row, column) from None
+        tags = self._numbers[0]
+        self._counts = [tags, *self._numbers[1 + 2 * tags : 5 + 2 * tags]]
 
-    def _refused(self, reason: str) -> XmlError:
-        """Returns an error at the place that is read."""
-        parser = self.parser
-        return XmlError(reason, parser.CurrentLineNumber, parser.CurrentColumnNumber + 1)
+    def _start(self, part: int) -> int:
+        # Before the ends of strings are the numbers of the attributes' namespaces.
+        return super()._start(part) + (self._counts[1] if part == 5 else 0)
 
-    def _declare(self, name: str, is_parameter: bool, value: Optional[str], *_: object) -> None:
-        """Notes an entity. One with markup or with other entities is refused."""
-        if value is None or is_parameter:
-            return
-        names = {found[1] for found in _REFERENCE.finditer(value)}
-        if "<" in value or names - _OF_XML:
-            raise self._refused(f"the entity {name!r} is not only text")
-        self.entities.setdefault(name, len(value))
+    def _namespaces(self) -> List[str]:
+        """Returns the namespaces, by their numbers."""
+        first = 2 * self._counts[1] + len(self) + self._counts[3]
+        count = len(self._numbers) - self._start(5) - first
+        return ["", *self.strings_of(first, count).all()]
 
-    def _begin_doctype(self, *_: object) -> None:
-        self.is_in_doctype = True
+    def _positions(self, places: Iterable[int]) -> List[Tuple[int, int]]:
+        """Returns the rows and the columns of places."""
+        starts = [0, *(found.end() for found in _LINE.finditer(self.text))]
+        rows = ((bisect.bisect_right(starts, place), place) for place in places)
+        return [(row, place - starts[row - 1] + 1) for row, place in rows]
 
-    def _end_doctype(self) -> None:
-        self.is_in_doctype = False
-        self._count()
+    def positions(self) -> List[Tuple[int, int]]:
+        """Returns the rows and the columns where the elements' start tags begin."""
+        return self._positions(start for start, _ in self.tags())
 
-    def _instruct(self, target: str, data: str) -> None:
-        """Takes an instruction beside the root."""
-        if target == "xml-stylesheet" and not self.open and not self.is_in_doctype:
-            start = self.offsets.of(self.parser.CurrentByteIndex)
-            end = self.text.find("?>", start) + len("?>")
-            self.links += SheetLink.of(data, bool(self.tags), (start, end))
+    def spaces_of_elements(self) -> List[str]:
+        """Returns the namespaces of the elements."""
+        names = self._namespaces()
+        return [names[number] for number in self.of_elements(3)]
 
-    def _count(self) -> None:
-        """Counts the characters that entities add, before any is read."""
-        if self.entities:
-            names = (found[1] for found in _REFERENCE.finditer(self.text))
-            if sum(self.entities.get(name, 0) for name in names) > _MOST_ADDED:
-                raise self._refused(f"entities add more than {_MOST_ADDED} characters")
+    def every_attribute(self) -> List[List[SpacedAttribute]]:
+        """Returns the attributes of the elements, but for declarations of prefixes."""
+        tags, count = self._counts[:2]
+        names, start = self._namespaces(), self._start(5) - count
+        strings = self.strings_of(0, 2 * count).all()
+        numbers = self._numbers[start : start + count]
+        rows = zip(numbers, strings[::2], strings[1::2])
+        counts = self._numbers[self._start(0) : self._start(0) + tags]
+        parts = (itertools.islice(rows, length) for length in counts)
+        return [
+            [(names[at], name, value) for at, name, value in part if at != _DECLARING]
+            for part in parts
+        ]
 
-    def _name_space(self, _: Optional[str], space: Optional[str]) -> None:
-        if space is not None and len(space) > _LONGEST_SPACE:
-            raise self._refused(f"a namespace has more than {_LONGEST_SPACE} characters")
+    def attribute_places(self, index: int) -> Dict[str, Span]:
+        tag = self._numbers[self._start(2) + OF_ELEMENT * index]
+        first, end = self.first_attributes[tag - 1 : tag + 1]
+        start = self._start(5) - self._counts[1]
+        spaces = self._numbers[start + first : start + end]
+        found: Dict[str, Span] = {}
+        # Of attributes of one name, that in no namespace counts, or else the last.
+        for at, space in sorted(zip(range(first, end), spaces), key=lambda each: each[1] == 0):
+            row = self._start(1) + OF_ATTRIBUTE * at
+            if space != _DECLARING:
+                span = self.place(self._numbers[row]), self.place(self._numbers[row + 4])
+                found[self.attribute_strings[2 * at]] = span
+        return found
 
-    def _start(self, name: str, attributes: List[str]) -> None:
-        space, local, prefix = _cut(name)
-        space = self.spaces.setdefault(space, space)
-        tag = XmlTag(local, prefix, space, self.open[-1] if self.open else -1)
-        tag.start = self.offsets.of(self.parser.CurrentByteIndex)
-        found = _TAG.match(self.text, tag.start)
-        tag.inner = tag.inner_end = tag.end = found.end() if found else tag.start
-        tag.row = self.parser.CurrentLineNumber
-        tag.column = self.parser.CurrentColumnNumber + 1
-        spaced: List[SpacedAttribute] = []
-        for key, value in zip(attributes[::2], attributes[1::2]):
-            key_space, key_name, _ = _cut(key)
-            self.room -= 1 + len(value)
-            if key_space:
-                key_space = self.spaces.setdefault(key_space, key_space)
-                spaced.append((key_space, key_name, value))
-            else:
-                tag.attributes[key_name] = value
-        if self.room < 0:
-            raise self._refused(f"attributes without a text add more than {_MOST_ADDED} characters")
-        tag.is_link = has_link(local, space, tag.attributes, spaced)
-        if spaced:
-            tag.spaced = Attributes(tag.attributes.copy(), spaced).with_language()
-        for key, value in {name: value for _, name, value in spaced}.items():
-            tag.attributes.setdefault(key, value)
-        self.open.append(len(self.tags))
-        self.tags.append(tag)
-
-    def _end(self, _: str) -> None:
-        tag = self.tags[self.open.pop()]
-        offset = self.offsets.of(self.parser.CurrentByteIndex)
-        if not self.text.endswith("/>", 0, tag.inner):
-            tag.inner_end = offset
-            tag.end = self.text.find(">", offset) + 1
-
-    def _text(self, value: str) -> None:
-        self.texts.append((len(self.tags), self.open[-1] if self.open else -1, value))
-
-
-def _cut(name: str) -> Tuple[str, str, str]:
-    """Returns the namespace, the local name and the prefix of a name."""
-    parts = name.split("}")
-    if len(parts) == 1:
-        return "", name, ""
-    return parts[0], parts[1], parts[2] if len(parts) > 2 else ""
-
-
-def read_xml(text: str) -> XmlDocument:
-    """Reads a document. One that is not well-formed raises `XmlError`."""
-    return _Reader(text).read()
+    def links(self) -> Iterator[SheetLink]:
+        """Yields the style sheets that instructions beside the root name."""
+        columns = (self.column(3, OF_OTHER, at) for at in range(OF_OTHER))
+        for kind, begun, owner, start, end in zip(*columns):
+            if kind == _INSTRUCTION and not owner:
+                span = self.place(start), self.place(end)
+                found = _SHEET.fullmatch(self.text, *span)
+                yield from SheetLink.of(found[1], bool(begun), span) if found else ()
 
 
 # The ends of the names of documents in XML.

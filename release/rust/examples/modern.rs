@@ -3,7 +3,7 @@
 //!
 //!     cargo run --features modern --example modern < picture.svg
 
-use simplecss::modern::{is_in_range, Element, Keyed, NamespacedAttribute, Options, Page, Sheet};
+use simplecss::modern::{is_in_range, Element, Keyed, NamespacedAttribute, Options, Page, Sheet, Text};
 use std::collections::HashMap;
 use std::io::Read;
 
@@ -175,16 +175,17 @@ fn main() -> Result<(), Box<dyn std::error::Error>> {
     let sources = document.descendants().filter(|it| it.has_tag_name("style"));
     let sources: Vec<&str> = sources.filter_map(|it| it.text()).collect();
     let sources = sources.join("\n");
-    let sheet = Sheet::parse(&sources, &Options { properties: &PROPERTIES, ..Options::default() })?;
+    let source = Text::sheet(&sources);
+    let sheet = Sheet::parse(&source, &Options { properties: &PROPERTIES, ..Options::default() })?;
     let kept = keep(&document);
     let page = page(&document, &kept);
+    let nodes: Vec<_> = (0..page.len()).map(|index| page.element(index).unwrap().node).collect();
+    let own: Vec<_> = nodes.iter().map(|it| Text::style(it.attribute("style").unwrap_or(""))).collect();
     let mut styles = page.styles(&sheet, 10_000_000)?;
-    for index in 0..page.len() {
-        let node = page.element(index).unwrap().node;
+    for (index, node) in nodes.iter().enumerate() {
         print!("{}", node.tag_name().name());
         for name in PROPERTIES {
-            let own = node.attribute("style").unwrap_or("");
-            if let Some(winner) = styles.style(index, own, name) {
+            if let Some(winner) = styles.style(index, &own[index], name) {
                 print!(" {name}={:?}", winner.declaration.value);
             }
         }

@@ -83,6 +83,8 @@ pub mod properties;
 pub mod skipped;
 pub mod tree;
 
+// Older versions of Rust have some methods of `rattle_std` that are not stable there.
+#[allow(unstable_name_collisions)]
 #[allow(clippy::all, dead_code, missing_docs, unused_imports, unused_labels, unused_variables)]
 mod erased;
 #[allow(dead_code)]

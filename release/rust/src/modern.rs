@@ -2,7 +2,7 @@
 //! Level 3 with `:is()`, `:where()`, `:not()`, `:has()` and `:nth-child(2 of .a)` of Level 4.
 //!
 //! ```
-//! use simplecss::modern::{Document, Options, Sheet};
+//! use simplecss::modern::{Document, Options, Sheet, Text};
 //! use simplecss::tree::Tree;
 //!
 //! let mut tree = Tree::new();
@@ -12,10 +12,10 @@
 //! }
 //! let mut document = Document::new(&tree);
 //!
-//! let text = "@media screen { li:nth-child(odd) { color: red } } ul:has(li) { li { color: blue } }";
-//! let sheet = Sheet::parse(text, &Options::default()).unwrap();
+//! let text = Text::sheet("@media screen { li:nth-child(odd) { color: red } } ul:has(li) { li { color: blue } }");
+//! let sheet = Sheet::parse(&text, &Options::default()).unwrap();
 //! let mut styles = document.styles(&sheet, 1_000_000).unwrap();
-//! let mut color = |index| styles.style(index, "", "color").unwrap().declaration.value;
+//! let mut color = |index| styles.style(index, (), "color").unwrap().declaration.value;
 //! assert_eq!([color(1), color(2), color(3)], ["red", "blue", "red"]);
 //! ```
 //!
@@ -35,11 +35,10 @@
 //! its ancestors and its earlier siblings. `:has()`, a list after `An+B` and `&` in a nested rule ask about others, so
 //! a whole page answers them: a [`Document`], or a [`Page`] of your own elements. Where a single element is asked, a
 //! selector with one of them is [`NeedsPage`].
-use crate::erased::css_selectors::{Condition, Part, Simple};
 use crate::erased::{
     css_cascade, css_explain, css_index, css_matching, css_selectors, css_sheet, css_styles, css_syntax, css_tree,
 };
-use crate::erased::css_selectors::Matching as _;
+use crate::erased::css_selectors::{needs_page, Matching as _};
 use crate::erased::css_tree::html::{html_marked, html_selector};
 use crate::rattle_std::alloc::Global;
 use crate::{done, tree::Tree, within, TextPos};
@@ -49,9 +48,13 @@ use core::fmt;
 
 pub mod clean;
 mod conditions;
+pub mod edit;
 pub mod html;
+pub mod inline;
 mod lint;
 mod page;
+mod text;
+mod unused;
 
 pub use crate::erased::css_cascade::{Origin, Rollback, Weight};
 pub use crate::erased::css_explain::{Criterion, Explained};
@@ -67,6 +70,8 @@ pub use crate::erased::css_tree::NumberedNode as Node;
 pub use conditions::{Contrast, Device, Display, Gamut, Medium, Options, Pointer, Scripting, Update};
 pub use lint::{lint, lint_style, takes_value, Edit, Finding};
 pub use page::{Page, PageStyles};
+pub use text::Text;
+pub use unused::unused;
 
 /// Why a text is not a list of selectors, and where.
 #[derive(Clone, Debug, PartialEq)]
@@ -110,23 +115,6 @@ impl fmt::Display for NeedsPage {
 }
 
 impl crate::rattle_std::error::Error for NeedsPage {}
-
-/// Whether a compound selector asks about a whole page.
-fn asks_page(part: &Part<'_>) -> bool {
-    part.conditions.iter().any(|it| match it {
-        Condition::Simple(Simple::Nesting(list)) => list.number != 0,
-        Condition::Simple(_) => false,
-        Condition::Not(all) | Condition::Is(all) | Condition::Where(all) => {
-            all.iter().any(|it| it.parts.iter().any(asks_page))
-        }
-        Condition::Tested(..) => true,
-    })
-}
-
-/// Whether a selector asks about a whole page.
-fn needs_page(selector: &css_selectors::Selector<'_>) -> bool {
-    selector.parts().iter().any(asks_page)
-}
 
 /// A selector that asks lists by their numbers, and these lists.
 struct Asking<'a> {
@@ -289,11 +277,28 @@ impl<'a> Selector<'a> {
     /// assert_eq!([matches("ul"), matches("ol"), matches("ul:not(:has(li))")], [Ok(true), Ok(false), Err(NeedsPage)]);
     /// ```
     pub fn matches<E: Element>(&self, element: &E) -> Result<bool, NeedsPage> {
-        if self.needs_page() {
-            return Err(NeedsPage);
-        }
-        Ok(self.selector.matches(element))
+        self.selector.matches(element).ok_or(NeedsPage)
     }
+}
+
+/// Returns the declaration of a property that wins by the rules with these indices and over the element's own.
+fn winner_by<'a>(
+    rules: &css_styles::StyleRules<'a>,
+    matching: &[usize],
+    own: Own<'a>,
+    property: &str,
+) -> Option<Winner<'a>> {
+    let mut found = crate::rattle_std::vec::Vec::new(Global);
+    done(rules.winners_named(Global, matching, own, &[&[property]], &mut found));
+    found.iter().next().copied().flatten()
+}
+
+/// Whether a rule may have a declaration of this property, whose name can be written with escapes.
+fn may_state(rule: &css_sheet::SheetRule<'_>, property: &str) -> bool {
+    rule.declarations().any(|part| match part.item {
+        Item::Declaration(it) => it.name.contains('\\') || it.name.eq_ignore_ascii_case(property),
+        _ => false,
+    })
 }
 
 /// Fails if all lists of these selectors have more than `most` answers on so many elements.
@@ -303,6 +308,11 @@ fn expect_few(selectors: &[Selector<'_>], elements: usize, most: usize) -> Resul
         Some(answers) if answers <= most => Ok(()),
         _ => Err(TooManyAnswers),
     }
+}
+
+/// Whether a selector matches an element of a page that is marked with its lists.
+fn is_matched<E: Element>(selector: &css_selectors::Selector<'_>, element: &E) -> bool {
+    selector.matches_counted(element, &mut css_matching::Tests::new())
 }
 
 /// Returns the indices at which it is so.
@@ -355,14 +365,14 @@ impl<'a> Sheet<'a> {
     /// layers.
     ///
     /// ```
-    /// use simplecss::modern::{Options, Sheet};
+    /// use simplecss::modern::{Options, Sheet, Text};
     ///
-    /// let text = "@namespace svg 'http://www.w3.org/2000/svg'; svg|a { b: c } html|a { d: e }";
+    /// let text = Text::sheet("@namespace svg 'http://www.w3.org/2000/svg'; svg|a { b: c } html|a { d: e }");
     /// let options = Options { namespaces: &["http://www.w3.org/2000/svg"], ..Options::default() };
-    /// let sheet = Sheet::parse(text, &options).unwrap();
+    /// let sheet = Sheet::parse(&text, &options).unwrap();
     /// assert_eq!(sheet.rules().map(|rule| rule.text()).collect::<Vec<_>>(), ["svg|a"]);
     /// ```
-    pub fn parse(text: &'a str, options: &Options<'_>) -> Result<Self, SheetError> {
+    pub fn parse(text: &'a Text<'_>, options: &Options<'_>) -> Result<Self, SheetError> {
         Sheet::parse_where(text, options, |keyword, prelude| options.holds(keyword, prelude))
     }
 
@@ -370,16 +380,16 @@ impl<'a> Sheet<'a> {
     /// other than `@layer` holds, by the keyword that its name is and its prelude.
     ///
     /// ```
-    /// use simplecss::modern::{Options, Sheet};
+    /// use simplecss::modern::{Options, Sheet, Text};
     ///
-    /// let text = "@container (min-width: 1px) { a { b: c } } @media print { d { e: f } }";
+    /// let text = Text::sheet("@container (min-width: 1px) { a { b: c } } @media print { d { e: f } }");
     /// let options = Options::default();
     /// let holds = |keyword: &str, prelude: &str| keyword == "container" || options.holds(keyword, prelude);
-    /// let sheet = Sheet::parse_where(text, &options, holds).unwrap();
+    /// let sheet = Sheet::parse_where(&text, &options, holds).unwrap();
     /// assert_eq!(sheet.rules().map(|rule| rule.text()).collect::<Vec<_>>(), ["a"]);
     /// ```
     pub fn parse_where(
-        text: &'a str,
+        text: &'a Text<'_>,
         options: &Options<'_>,
         holds: impl Fn(&str, &str) -> bool,
     ) -> Result<Self, SheetError> {
@@ -411,21 +421,23 @@ impl<'a> Sheet<'a> {
     pub fn in_html(&self, mode: HtmlMode) -> HtmlSheet<'_, 'a> {
         let rules = self.rules.as_slice().iter();
         let selectors = rules.map(|rule| done(html_selector(Global, mode, &rule.selector)));
-        HtmlSheet {
-            rules: &self.rules,
-            selectors: crate::rattle_std::vec::Vec(selectors.collect()),
-            lists: html_lists(mode, self.rules.lists()),
-        }
+        let selectors = crate::rattle_std::vec::Vec(selectors.collect());
+        HtmlSheet { rules: &self.rules, read: Some((selectors, html_lists(mode, self.rules.lists()))) }
+    }
+
+    /// Returns the rules with their selectors as they are, as a document in XML reads them.
+    fn in_xml(&self) -> HtmlSheet<'_, 'a> {
+        HtmlSheet { rules: &self.rules, read: None }
     }
 
     /// Returns the rules that a single element cannot answer. If there are some, [`Sheet::winning`], [`Sheet::index`]
     /// and [`Sheet::walk`] fail.
     ///
     /// ```
-    /// use simplecss::modern::{Options, Sheet};
+    /// use simplecss::modern::{Options, Sheet, Text};
     ///
-    /// let text = "a { b: c; & d { e: f } } g:not(:has(h)) { i: j }";
-    /// let sheet = Sheet::parse(text, &Options::default()).unwrap();
+    /// let text = Text::sheet("a { b: c; & d { e: f } } g:not(:has(h)) { i: j }");
+    /// let sheet = Sheet::parse(&text, &Options::default()).unwrap();
     /// let texts: Vec<_> = sheet.needing_page().map(|rule| rule.text()).collect();
     /// assert_eq!(texts, ["& d", "g:not(:has(h))"]);
     /// assert!(sheet.index().is_err());
@@ -446,8 +458,13 @@ impl<'a> Sheet<'a> {
     /// specificity, and by where it stands. Shorthands are not expanded. Fails if one of the rules needs a page: see
     /// [`Page::styles`] and [`Document::styles`].
     pub fn winning<E: Element>(&self, element: &E, property: &str) -> Result<Option<Declaration<'a>>, NeedsPage> {
-        let winner = css_styles::winning(Global, self.of_elements()?, element, "".into(), property);
-        Ok(done(winner).map(|it| it.declaration))
+        let mut matching = Vec::new();
+        for (index, rule) in self.of_elements()?.iter().enumerate() {
+            if may_state(rule, property) && rule.selector.matches(element).ok_or(NeedsPage)? {
+                matching.push(index);
+            }
+        }
+        Ok(winner_by(&self.rules, &matching, ().into(), property).map(|it| it.declaration))
     }
 
     /// Makes an index of the rules, for single elements. Fails if one of the rules needs a page: see
@@ -470,11 +487,17 @@ impl<'a> Sheet<'a> {
     }
 }
 
-/// The style rules of a sheet, with their selectors as an HTML document reads them.
+/// Selectors and lists as an HTML document reads them.
+type ReadSelectors<'s> = (
+    crate::rattle_std::vec::Vec<css_selectors::Selector<'s>>,
+    crate::rattle_std::vec::Vec<css_selectors::MarkedList<'s>>,
+);
+
+/// The style rules of a sheet, with their selectors as a document reads them.
 pub struct HtmlSheet<'s, 'a> {
     rules: &'s css_styles::StyleRules<'a>,
-    selectors: crate::rattle_std::vec::Vec<css_selectors::Selector<'s>>,
-    lists: crate::rattle_std::vec::Vec<css_selectors::MarkedList<'s>>,
+    /// The selectors and their lists, if they are not those of the rules.
+    read: Option<ReadSelectors<'s>>,
 }
 
 /// A style rule with one selector.
@@ -508,10 +531,8 @@ impl<'a> Rule<'_, 'a> {
     /// Whether the rule applies to the element. A rule with a pseudo-element applies to none. Fails if the rule needs
     /// a page.
     pub fn matches<E: Element>(&self, element: &E) -> Result<bool, NeedsPage> {
-        if self.needs_page {
-            return Err(NeedsPage);
-        }
-        Ok(self.rule.pseudo_element.is_none() && self.rule.selector.matches(element))
+        let found = self.rule.selector.matches(element).ok_or(NeedsPage)?;
+        Ok(self.rule.pseudo_element.is_none() && found)
     }
 
     /// Returns the declarations, with what is skipped between them.
@@ -539,15 +560,15 @@ impl Index<'_, '_> {
 /// it after them:
 ///
 /// ```
-/// use simplecss::modern::{Document, Options, Sheet};
+/// use simplecss::modern::{Document, Options, Sheet, Text};
 /// use simplecss::tree::Tree;
 ///
 /// let mut tree = Tree::new();
 /// let list = tree.push(None, "ul").unwrap();
 /// let item = tree.push(Some(list), "li").unwrap();
 /// let document = Document::new(&tree);
-/// let text = "li { margin: 0 } ul > li { color: red } ol li { color: blue }";
-/// let sheet = Sheet::parse(text, &Options::default()).unwrap();
+/// let text = Text::sheet("li { margin: 0 } ul > li { color: red } ol li { color: blue }");
+/// let sheet = Sheet::parse(&text, &Options::default()).unwrap();
 ///
 /// let mut walk = sheet.walk().unwrap();
 /// walk.enter(&document.node(list).unwrap());
@@ -765,7 +786,7 @@ impl<'p, 't> Document<'p, 't> {
         for (selector, lists) in selectors.iter().map(Selector::asking) {
             self.answer(lists, most)?;
             for (index, one) in found.iter_mut().enumerate() {
-                *one = *one || self.0.node(index).map_or(false, |node| selector.matches(&node));
+                *one = *one || self.0.node(index).map_or(false, |node| is_matched(selector, &node));
             }
         }
         Ok(places_of(&found))
@@ -782,18 +803,19 @@ impl<'p, 't> Document<'p, 't> {
     /// Fails if there are more than `most` answers, one for each list and each element.
     ///
     /// ```
-    /// use simplecss::modern::{Document, Options, Own, Sheet, Source};
+    /// use simplecss::modern::{Document, Options, Own, Sheet, Source, Text};
     /// use simplecss::tree::Tree;
     ///
     /// let mut tree = Tree::new();
     /// let list = tree.push(None, "ul").unwrap();
     /// let item = tree.push(Some(list), "li").unwrap();
     /// let mut document = Document::new(&tree);
-    /// let text = "li { color: red; margin: 0 } ul:has(li) { > li { color: blue } }";
-    /// let sheet = Sheet::parse(text, &Options::default()).unwrap();
+    /// let text = Text::sheet("li { color: red; margin: 0 } ul:has(li) { > li { color: blue } }");
+    /// let sheet = Sheet::parse(&text, &Options::default()).unwrap();
     ///
     /// let mut styles = document.styles(&sheet, 1_000_000).unwrap();
-    /// let found = styles.winners(item, "margin: 1px").iter().map(|it| (it.declaration.value, it.source));
+    /// let style = Text::style("margin: 1px");
+    /// let found = styles.winners(item, &style).iter().map(|it| (it.declaration.value, it.source));
     /// assert_eq!(found.collect::<Vec<_>>(), [("blue", Source::Rule(1)), ("1px", Source::Style)]);
     ///
     /// let own = Own { style: "", presentation: "color: red; margin: 2px; padding: 3px" };
@@ -801,9 +823,9 @@ impl<'p, 't> Document<'p, 't> {
     /// assert_eq!(styles.style(item, own, "padding").unwrap().source, Source::Presentation);
     ///
     /// let named = ["margin-left", "margin"];
-    /// assert_eq!(styles.style_named(item, "margin: 1px", &named).unwrap().declaration.value, "1px");
+    /// assert_eq!(styles.style_named(item, &style, &named).unwrap().declaration.value, "1px");
     /// ```
-    pub fn styles<'d, 's, 'a>(
+    pub fn styles<'d, 's: 'd, 'a>(
         &'d mut self,
         sheet: &'s Sheet<'a>,
         most: usize,
@@ -815,29 +837,34 @@ impl<'p, 't> Document<'p, 't> {
     /// Returns a walk as [`Document::styles`] does, where selectors are read as in an HTML document.
     ///
     /// ```
-    /// use simplecss::modern::{Document, HtmlMode, Options, Sheet};
+    /// use simplecss::modern::{Document, HtmlMode, Options, Sheet, Text};
     /// use simplecss::tree::Tree;
     ///
     /// let mut tree = Tree::new();
     /// let list = tree.push(None, "ul").unwrap();
     /// let item = tree.push(Some(list), "li").unwrap();
     /// let mut document = Document::new(&tree);
-    /// let sheet = Sheet::parse("UL { color: red; &:has(LI) { color: blue } }", &Options::default()).unwrap();
-    /// assert!(document.styles(&sheet, 1_000_000).unwrap().style(list, "", "color").is_none());
+    /// let text = Text::sheet("UL { color: red; &:has(LI) { color: blue } }");
+    /// let sheet = Sheet::parse(&text, &Options::default()).unwrap();
+    /// assert!(document.styles(&sheet, 1_000_000).unwrap().style(list, (), "color").is_none());
     ///
     /// let sheet = sheet.in_html(HtmlMode::NoQuirks);
     /// let mut styles = document.html_styles(&sheet, 1_000_000).unwrap();
-    /// assert_eq!(styles.style(list, "", "color").unwrap().declaration.value, "blue");
+    /// assert_eq!(styles.style(list, (), "color").unwrap().declaration.value, "blue");
     /// assert_eq!(styles.matching(list), [0, 1]);
-    /// assert!(styles.style(item, "", "color").is_none());
+    /// assert!(styles.style(item, (), "color").is_none());
     /// ```
-    pub fn html_styles<'d, 'h, 's, 'a>(
+    pub fn html_styles<'d, 'h: 'd, 's, 'a>(
         &'d mut self,
         sheet: &'h HtmlSheet<'s, 'a>,
         most: usize,
     ) -> Result<Styles<'d, 'p, 't, 'h, 'a, 's>, TooManyAnswers> {
-        self.answer(sheet.lists.as_slice(), most)?;
-        Ok(Styles::new(&self.0, sheet.rules, Some(sheet.selectors.as_slice())))
+        let Some((selectors, lists)) = &sheet.read else {
+            self.answer(sheet.rules.lists(), most)?;
+            return Ok(Styles::new(&self.0, sheet.rules, None));
+        };
+        self.answer(lists.as_slice(), most)?;
+        Ok(Styles::new(&self.0, sheet.rules, Some(selectors.as_slice())))
     }
 }
 
@@ -845,16 +872,17 @@ impl<'p, 't> Document<'p, 't> {
 /// order of the document take the least time. While it lives the document does not change:
 ///
 /// ```compile_fail,E0499
-/// use simplecss::modern::{Document, Options, Sheet};
+/// use simplecss::modern::{Document, Options, Sheet, Text};
 /// use simplecss::tree::Tree;
 ///
 /// let mut tree = Tree::new();
 /// tree.push(None, "a").unwrap();
 /// let mut document = Document::new(&tree);
-/// let sheet = Sheet::parse("a:not(:has(:empty)) { b: c }", &Options::default()).unwrap();
+/// let text = Text::sheet("a:not(:has(:empty)) { b: c }");
+/// let sheet = Sheet::parse(&text, &Options::default()).unwrap();
 /// let mut styles = document.styles(&sheet, 1_000_000).unwrap();
 /// document.set_text(0);
-/// assert!(styles.style(0, "", "b").is_some());
+/// assert!(styles.style(0, (), "b").is_some());
 /// ```
 pub struct Styles<'d, 'p, 't, 's, 'a, 'w> {
     page: &'d css_tree::NumberedTree<'p, 't>,
@@ -862,14 +890,18 @@ pub struct Styles<'d, 'p, 't, 's, 'a, 'w> {
     /// The selectors of the rules, if they are read in another way.
     selectors: Option<&'s [css_selectors::Selector<'w>]>,
     /// What finds winners, once they are asked for.
-    styles: Option<css_styles::Styles<'s, 'a, 'w>>,
+    styles: Option<css_styles::Styles<'d, 'a, 'w, 'p, 't>>,
     found: crate::rattle_std::vec::Vec<Winner<'a>>,
     /// What finds rules, once they are asked for.
     walk: Option<css_tree::TreeWalk<'s, 'w>>,
     indices: crate::rattle_std::vec::Vec<usize>,
 }
 
-impl<'d, 'p, 't, 's, 'a: 'w, 'w> Styles<'d, 'p, 't, 's, 'a, 'w> {
+/// What finds winners, and those that it found.
+type Searching<'f, 'd, 'a, 'w, 'p, 't> =
+    (&'f mut css_styles::Styles<'d, 'a, 'w, 'p, 't>, &'f mut crate::rattle_std::vec::Vec<Winner<'a>>);
+
+impl<'d, 'p, 't, 's: 'd, 'a: 'w, 'w> Styles<'d, 'p, 't, 's, 'a, 'w> {
     fn new(
         page: &'d css_tree::NumberedTree<'p, 't>,
         rules: &'s css_styles::StyleRules<'a>,
@@ -887,12 +919,12 @@ impl<'d, 'p, 't, 's, 'a: 'w, 'w> Styles<'d, 'p, 't, 's, 'a, 'w> {
     }
 
     /// Returns what finds winners, which is made when it is asked first.
-    fn finding(&mut self) -> (&mut css_styles::Styles<'s, 'a, 'w>, &mut crate::rattle_std::vec::Vec<Winner<'a>>) {
-        let (rules, selectors) = (self.rules, self.selectors);
+    fn finding(&mut self) -> Searching<'_, 'd, 'a, 'w, 'p, 't> {
+        let (page, rules, selectors) = (self.page, self.rules, self.selectors);
         let styles = self.styles.get_or_insert_with(|| {
             done(match selectors {
-                None => css_styles::Styles::new(Global, rules),
-                Some(selectors) => css_styles::Styles::with_selectors(Global, rules, selectors),
+                None => css_styles::Styles::new(Global, rules, page),
+                Some(selectors) => css_styles::Styles::in_html(Global, rules, selectors, page),
             })
         });
         (styles, &mut self.found)
@@ -914,14 +946,14 @@ impl<'d, 'p, 't, 's, 'a: 'w, 'w> Styles<'d, 'p, 't, 's, 'a, 'w> {
     }
 
     /// Returns the declarations that win on the element at an index that has these of its own: for each property the
-    /// one that no other beats. A text is that of its `style` attribute. Shorthands are not expanded. Panics if there
-    /// is no such element.
+    /// one that no other beats. A [`Text`] is that of its `style` attribute, and `()` stands for none. Shorthands are not
+    /// expanded. Panics if there is no such element.
     pub fn winners(&mut self, index: usize, own: impl Into<Own<'a>>) -> &[Winner<'a>] {
         let mut tests = css_matching::Tests::new();
         self.expect(index);
-        let (page, own) = (self.page, short(own.into()));
+        let own = short(own.into());
         let (styles, found) = self.finding();
-        done(styles.winners(page, index, own, found, &mut tests));
+        done(styles.winners(index, own, found, &mut tests));
         &self.found
     }
 
@@ -941,9 +973,9 @@ impl<'d, 'p, 't, 's, 'a: 'w, 'w> Styles<'d, 'p, 't, 's, 'a, 'w> {
         let mut tests = css_matching::Tests::new();
         let mut found = crate::rattle_std::vec::Vec::new(Global);
         self.expect(index);
-        let (page, own) = (self.page, short(own.into()));
+        let own = short(own.into());
         let (styles, _) = self.finding();
-        done(styles.winners_named(page, index, own, &[names], &mut found, &mut tests));
+        done(styles.winners_named(index, own, &[names], &mut found, &mut tests));
         found.iter().next().copied().flatten()
     }
 
@@ -951,15 +983,17 @@ impl<'d, 'p, 't, 's, 'a: 'w, 'w> Styles<'d, 'p, 't, 's, 'a, 'w> {
     /// the criterion of the cascade by which it loses to the one before it.
     ///
     /// ```
-    /// use simplecss::modern::{Criterion, Document, Options, Sheet};
+    /// use simplecss::modern::{Criterion, Document, Options, Sheet, Text};
     /// use simplecss::tree::Tree;
     ///
     /// let mut tree = Tree::new();
     /// let list = tree.push(None, "ul").unwrap();
     /// let mut document = Document::new(&tree);
-    /// let sheet = Sheet::parse("ul { color: red } :is(ul) { color: blue }", &Options::default()).unwrap();
+    /// let text = Text::sheet("ul { color: red } :is(ul) { color: blue }");
+    /// let sheet = Sheet::parse(&text, &Options::default()).unwrap();
     /// let mut styles = document.styles(&sheet, 1_000_000).unwrap();
-    /// let found = styles.explain(list, "color: lime", &["color"]);
+    /// let style = Text::style("color: lime");
+    /// let found = styles.explain(list, &style, &["color"]);
     /// let values: Vec<_> = found.iter().map(|it| (it.winner.declaration.value, it.lost_by)).collect();
     /// let (style, order) = (Some(Criterion::StyleAttribute), Some(Criterion::Order));
     /// assert_eq!(values, [("lime", None), ("blue", style), ("red", order)]);
@@ -974,13 +1008,6 @@ impl<'d, 'p, 't, 's, 'a: 'w, 'w> Styles<'d, 'p, 't, 's, 'a, 'w> {
     /// Panics if there is no element at an index.
     fn expect(&self, index: usize) {
         assert!(index < self.page.len(), "there is no element {index}");
-    }
-}
-
-/// The declarations of a `style` attribute, with no presentation declarations.
-impl<'a> From<&'a str> for Own<'a> {
-    fn from(style: &'a str) -> Self {
-        Own { style, presentation: "" }
     }
 }
 

@@ -1,6 +1,8 @@
 //! The C library of `simplecss` (`include/simplecss.h`), over sources that are proved and then erased to
 //! Rust. Unlike the library that the toolchain makes, it may abort where an allocation fails.
 #![allow(clippy::all, dead_code, unused_imports, unused_labels, unused_macros, unused_variables)]
+// Older versions of Rust have some methods of `rattle_std` that are not stable there.
+#![allow(unstable_name_collisions)]
 // The names of the library `log` are shared with the crate of Rust, which has a feature of this name.
 #![allow(unknown_lints, unexpected_cfgs)]
 

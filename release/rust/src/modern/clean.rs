@@ -13,12 +13,41 @@
 //! assert_eq!(kept.text, ".mail p, .mail a:hover {color: red;}\n");
 //! assert!(is_clean_sheet(policy, &kept.text));
 //! ```
+//!
+//! A url is kept if it is answered, with what is written in its place. So ask [`urls`] first:
+//!
+//! ```
+//! use simplecss::modern::clean::{clean_style, mail, urls, Changes, Policy};
+//!
+//! let text = "background: url(a.png); background: url(b.png)";
+//! assert_eq!(urls(text), ["a.png", "b.png"]);
+//! let mail = mail("").declarations;
+//! let changes = Changes { urls: &["a.png"], answers: &["/proxy?a.png"], ..mail.changes };
+//! let policy = Policy { functions: &["url"], changes, ..mail };
+//! assert_eq!(clean_style(policy, text).text, "background: url(\"/proxy?a.png\");");
+//! ```
+//!
+//! A limit is two numbers and words. A value may have nothing but such words and numbers between these:
+//!
+//! ```
+//! use simplecss::modern::clean::{clean_style, mail, Limits, Policy, Reason};
+//!
+//! let mail = mail("").declarations;
+//! let limits = Limits { properties: &["position", "margin"], limits: &["static, relative", "0, 96 auto"] };
+//! let policy = Policy { properties: &["position", "margin"], limits, ..mail };
+//! let kept = clean_style(policy, "position: relative; position: fixed; margin: 1in auto; margin: -1px");
+//! assert_eq!(kept.text, "position: relative; margin: 1in auto;");
+//! assert_eq!(kept.dropped[0].reason, Reason::Beyond);
+//! ```
+use crate::erased::clean_values;
 use crate::erased::css_clean::{self, lists};
 use crate::rattle_std::alloc::Global;
 use crate::{done, within};
 use alloc::string::String;
 use alloc::vec::Vec;
 
+pub use crate::erased::clean_values::changes::Changes;
+pub use crate::erased::clean_values::limits::Limits;
 pub use crate::erased::css_clean::{Dropped, Policy, Reason, SheetPolicy};
 
 /// What is kept of a text, and what is dropped, in order, a rule after its declarations.
@@ -44,6 +73,13 @@ pub fn mail(scope: &str) -> SheetPolicy<'_> {
 /// Returns a policy for comments, within the elements that a scope matches.
 pub fn comment(scope: &str) -> SheetPolicy<'_> {
     lists::comment(scope)
+}
+
+/// Returns the urls of a text, in order: those without quotes, and strings that follow `url(`, `src(`, `image(`,
+/// `image-set(` or `-webkit-image-set(` in a declaration.
+pub fn urls(text: &str) -> Vec<String> {
+    let found = done(clean_values::urls::urls(Global, within(text))).0;
+    found.split_terminator('\0').map(String::from).collect()
 }
 
 /// Returns what the policy allows of a style attribute: the declarations that are allowed.

@@ -3,6 +3,8 @@ use crate::done;
 use crate::erased::css_conditions::{media_says, supports_holds, Supported, Truth};
 use crate::erased::css_sheet::read_supported;
 use crate::erased::css_syntax::tokens::{past_gap, spells};
+use crate::erased::css_values::RefusedValues;
+use crate::erased::sheet_calls::functions::is_known_word;
 use crate::rattle_std::alloc::{AllocError, Global};
 use crate::within;
 
@@ -52,10 +54,10 @@ impl Default for Device {
 /// How a sheet is read.
 ///
 /// ```
-/// use simplecss::modern::{Device, Options, Sheet};
+/// use simplecss::modern::{Device, Options, Sheet, Text};
 ///
-/// let text = "@media (max-width: 40em) { a { b: c } } @supports (fill: red) { d { e: f } }";
-/// let count = |options| Sheet::parse(text, &options).unwrap().rules().len();
+/// let text = Text::sheet("@media (max-width: 40em) { a { b: c } } @supports (fill: red) { d { e: f } }");
+/// let count = |options| Sheet::parse(&text, &options).unwrap().rules().len();
 /// let phone = Device { width: 360, ..Device::default() };
 /// assert_eq!(count(Options::default()), 0);
 /// assert_eq!(count(Options { device: phone, ..Options::default() }), 1);
@@ -86,8 +88,8 @@ impl Default for Options<'_> {
 
 impl Options<'_> {
     /// Whether a group rule's condition holds. The keyword is its name. A condition of `@media` holds if it does on the
-    /// device, and one of `@supports` if the properties are known and the selectors are supported. What is not known does
-    /// not hold, and the condition of no other group rule does.
+    /// device, and one of `@supports` if the properties are known, not with values that no browser takes, and the
+    /// selectors are supported. What is not known does not hold, and the condition of no other group rule does.
     ///
     /// ```
     /// use simplecss::modern::Options;
@@ -101,26 +103,31 @@ impl Options<'_> {
         if keyword.eq_ignore_ascii_case("media") {
             return media_says(within(prelude), &self.device) == Truth::True;
         }
-        let known = Known { properties: self.properties };
-        keyword.eq_ignore_ascii_case("supports") && done(supports_holds(within(prelude), &known))
+        keyword.eq_ignore_ascii_case("supports") && {
+            let known = Known { properties: self.properties, values: done(RefusedValues::new(Global)) };
+            done(supports_holds(within(prelude), &known))
+        }
     }
 }
 
-/// What is supported: properties of these names, custom properties, and selectors that can be read.
+/// What is supported: properties of these names, but for values that no browser takes, custom properties, and selectors
+/// that can be read.
 struct Known<'o> {
     properties: &'o [&'o str],
+    values: RefusedValues,
 }
 
 impl Supported for Known<'_> {
     fn knows(&self, name: &[u8], value: &[u8]) -> bool {
         let is_listed = || self.properties.iter().any(|it| spells(it.as_bytes(), name));
-        matches!(name, [b'-', b'-', _, ..]) || !past_gap(value).is_empty() && is_listed()
+        let is_refused = || core::str::from_utf8(name).map_or(false, |name| self.values.refuses(name, value));
+        matches!(name, [b'-', b'-', _, ..]) || !past_gap(value).is_empty() && is_listed() && !is_refused()
     }
 
     fn function(&self, name: &[u8], arguments: &[u8]) -> Result<bool, AllocError> {
         match core::str::from_utf8(arguments) {
             Ok(text) if spells(b"selector", name) => Ok(read_supported(Global, text)?.is_some()),
-            _ => Ok(false),
+            _ => Ok(is_known_word(name, arguments)),
         }
     }
 }

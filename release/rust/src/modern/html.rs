@@ -1,7 +1,7 @@
-//! Pages in HTML: the tree that a browser makes of a text, and where its tags and attributes are in it.
+//! Pages in HTML, and documents in XML: the tree that a browser makes of a text, and where its tags and attributes are in it.
 //!
 //! ```
-//! use simplecss::modern::{html::Page, Options, Selector, Sheet};
+//! use simplecss::modern::{html::Page, Options, Selector, Sheet, Text};
 //!
 //! let text = "<!DOCTYPE html><ul><li class=a>one<li>two</ul>";
 //! let page = Page::parse(text).unwrap();
@@ -18,18 +18,22 @@
 //! let selectors = Selector::parse_list("UL > li:not(.a)").unwrap();
 //! assert_eq!(document.select(&selectors, 1_000_000).unwrap(), [5]);
 //!
-//! let sheet = Sheet::parse("Li { color: red } li + li { color: blue }", &Options::default()).unwrap();
+//! let text = Text::sheet("Li { color: red } li + li { color: blue }");
+//! let sheet = Sheet::parse(&text, &Options::default()).unwrap();
 //! let rules = document.rules(&sheet);
 //! let mut styles = document.styles(&rules, 1_000_000).unwrap();
-//! let mut color = |index| styles.style(index, "", "color").unwrap().declaration.value;
+//! let mut color = |index| styles.style(index, (), "color").unwrap().declaration.value;
 //! assert_eq!([color(4), color(5)], ["red", "blue"]);
 //! ```
 use super::{HtmlSheet, NamespacedAttribute, Selector, Sheet, Styles, TooManyAnswers};
 use crate::erased::css_html_tree::page::{Context as ProvedContext, Fault, Options as ProvedOptions};
-use crate::erased::css_selectors::{MarkedList, Matching as _};
+use crate::erased::css_selectors::MarkedList;
 use crate::erased::css_tree::html::{html_marked, html_selector, HtmlMode, CASELESS_ATTRIBUTES, QUIRKS_ATTRIBUTES};
+use crate::erased::css_xml::faults::Fault as XmlFault;
+use crate::erased::html_calls::documents::read_xml;
+use crate::erased::html_calls::encodings::encoding_of;
 use crate::erased::html_calls::pages::{context_of, read, Reading};
-use crate::erased::html_encodings::page::{encoding_of_page, Source};
+use crate::erased::html_encodings::page::Source;
 use crate::rattle_std::alloc::Global;
 use crate::tree::{States, Tree};
 use crate::{done, within};
@@ -42,16 +46,16 @@ use core::ops::Range;
 /// The namespaces of elements and attributes. The number of each is one more than its index: that of HTML is 1.
 ///
 /// ```
-/// use simplecss::modern::{html, Options, Sheet};
+/// use simplecss::modern::{html, Options, Sheet, Text};
 ///
-/// let text = "@namespace 'http://www.w3.org/2000/svg'; a { fill: red }";
+/// let text = Text::sheet("@namespace 'http://www.w3.org/2000/svg'; a { fill: red }");
 /// let page = html::Page::parse("<a></a><svg><a></a></svg>").unwrap();
 /// let tree = page.tree();
 /// let mut document = page.document(&tree);
-/// let sheet = Sheet::parse(text, &Options { namespaces: &html::NAMESPACES, ..Options::default() }).unwrap();
+/// let sheet = Sheet::parse(&text, &Options { namespaces: &html::NAMESPACES, ..Options::default() }).unwrap();
 /// let rules = document.rules(&sheet);
 /// let mut styles = document.styles(&rules, 1_000_000).unwrap();
-/// let drawn = |index: usize| styles.style(index, "", "fill").is_some();
+/// let drawn = |index: usize| styles.style(index, (), "fill").is_some();
 /// assert_eq!((3..6).map(drawn).collect::<Vec<_>>(), [false, false, true]);
 /// ```
 pub const NAMESPACES: [&str; 6] = [
@@ -69,6 +73,8 @@ const SVG: usize = 2;
 const XLINK: usize = 4;
 const XML: usize = 5;
 const XMLNS: usize = 6;
+/// The number of the namespace of `xml` in a document in XML.
+const XML_OF_DOCUMENTS: usize = 1;
 
 /// How many numbers an attribute, an element, another node and a merged tag have.
 const OF_ATTRIBUTE: usize = 5;
@@ -83,15 +89,18 @@ const CDATA: usize = 2;
 pub enum PageError {
     /// Elements are nested in a way that takes time or elements out of proportion: about 100 steps for each 8 bytes.
     TooDeep,
-    /// There are 2^32 elements or more.
+    /// There are 2^32 elements or more, or in XML more namespaces than are read.
     TooLong,
+    /// A text is no document in XML, by what is at this offset.
+    NotWellFormed(usize),
 }
 
 impl fmt::Display for PageError {
     fn fmt(&self, f: &mut fmt::Formatter<'_>) -> fmt::Result {
         f.write_str(match self {
             PageError::TooDeep => "elements are nested in a way that takes time or elements out of proportion",
-            PageError::TooLong => "there are too many elements",
+            PageError::TooLong => "there are too many elements or namespaces",
+            PageError::NotWellFormed(_) => "the document is not well-formed",
         })
     }
 }
@@ -105,7 +114,7 @@ pub enum EncodingSource {
     Mark,
     /// The label that comes with it, as from a server.
     Label,
-    /// A `meta` in its first 1,024 bytes.
+    /// A `meta` in its first 1,024 bytes, or in its head.
     Meta,
     /// An XML declaration.
     Declaration,
@@ -132,7 +141,7 @@ pub struct PageEncoding {
 /// assert_eq!(page_encoding(b"<meta charset=latin1>", "sjis").name, "Shift_JIS");
 /// ```
 pub fn page_encoding(page: &[u8], label: &str) -> PageEncoding {
-    let found = encoding_of_page(label.as_bytes(), page);
+    let found = encoding_of(Global, label.as_bytes(), page).unwrap_or_else(|_| panic!("memory allocation failed"));
     PageEncoding {
         name: found.encoding.name(),
         source: match found.source {
@@ -219,6 +228,14 @@ pub struct Page<'a> {
     /// Names and values, the one after the other, and where each ends.
     strings: String,
     ends: Vec<usize>,
+    xml: Option<KeptNamespaces>,
+}
+
+/// What is kept of the namespaces of a document in XML: the number of that of each attribute, and the number of the string
+/// of the first.
+struct KeptNamespaces {
+    of_attributes: Vec<usize>,
+    first: usize,
 }
 
 /// Takes numbers from the front of those that are left.
@@ -259,14 +276,50 @@ impl<'a> Page<'a> {
             leaves_templates: !options.templates,
         };
         match read(Global, within(text).as_bytes(), &reading) {
-            Ok(answer) => Ok(Page::of(text, &answer.numbers, answer.strings.0)),
+            Ok(answer) => Ok(Page::of(text, &answer.numbers, answer.strings.0, false)),
             Err(Fault::TooDeep) => Err(PageError::TooDeep),
             Err(Fault::TooLong) => Err(PageError::TooLong),
             Err(Fault::Memory) => panic!("memory allocation failed"),
         }
     }
 
-    fn of(text: &'a str, numbers: &[usize], strings: Vec<u8>) -> Self {
+    /// Reads a document in XML, as SVG or XHTML. A mark of the order of bytes at the front is no part of it. Names of elements
+    /// and attributes are local names, and [`Page::namespaces`] has the namespaces.
+    ///
+    /// ```
+    /// use simplecss::modern::{html::{Page, PageError}, Options, Selector, Sheet, Text};
+    ///
+    /// let text = "<svg xmlns='http://www.w3.org/2000/svg' xmlns:h='urn:x'><g h:A='1'/><h:G>&lt;</h:G></svg>";
+    /// let page = Page::parse_xml(text).unwrap();
+    /// let names: Vec<_> = page.elements().map(|it| (it.name(), page.namespaces()[it.namespace() - 1])).collect();
+    /// assert_eq!(names[1..], [("g", "http://www.w3.org/2000/svg"), ("G", "urn:x")]);
+    /// assert_eq!(&text[page.element(1).unwrap().start_tag().unwrap()], "<g h:A='1'/>");
+    ///
+    /// let tree = page.tree();
+    /// let mut document = page.document(&tree);
+    /// assert_eq!(document.select(&Selector::parse_list("svg > G, [*|A]").unwrap(), 1_000_000).unwrap(), [1, 2]);
+    ///
+    /// let namespaces = page.namespaces();
+    /// let options = Options { namespaces: &namespaces, ..Options::default() };
+    /// let text = Text::sheet("@namespace n 'urn:x'; n|* { fill: red } n|g { fill: blue }");
+    /// let sheet = Sheet::parse(&text, &options).unwrap();
+    /// let rules = document.rules(&sheet);
+    /// let mut styles = document.styles(&rules, 1_000_000).unwrap();
+    /// assert_eq!(styles.style(2, (), "fill").unwrap().declaration.value, "red");
+    /// assert!(styles.style(1, (), "fill").is_none());
+    ///
+    /// assert_eq!(Page::parse_xml("<a></b>").err(), Some(PageError::NotWellFormed(3)));
+    /// ```
+    pub fn parse_xml(text: &'a str) -> Result<Self, PageError> {
+        match read_xml(Global, within(text).as_bytes()) {
+            Ok(answer) => Ok(Page::of(text, &answer.numbers, answer.strings.0, true)),
+            Err(XmlFault::NotWellFormed(_, offset)) => Err(PageError::NotWellFormed(offset)),
+            Err(XmlFault::TooMany) => Err(PageError::TooLong),
+            Err(XmlFault::Memory) => panic!("memory allocation failed"),
+        }
+    }
+
+    fn of(text: &'a str, numbers: &[usize], strings: Vec<u8>, is_xml: bool) -> Self {
         let mut left = Numbers(numbers);
         let tags = left.next();
         let places = left.rows(tags, 2);
@@ -295,14 +348,18 @@ impl<'a> Page<'a> {
         let first = 2 * counts[0] + counts[1];
         let others = left.rows(counts[2], OF_OTHER).enumerate().filter(|(_, it)| it[0] <= CDATA);
         let texts = others.map(|(at, it)| (first + at, index_of(it[2]), it[3]..it[4])).collect();
+        let last = first + counts[2];
+        let xml = is_xml.then(|| KeptNamespaces { of_attributes: left.take(counts[0]).to_vec(), first: last });
         let more: Vec<_> = left.rows(counts[3], OF_MERGED).filter_map(|it| Some((index_of(it[0])?, it[1] - 1))).collect();
         let strings = String::from_utf8(strings).expect("names and values are in UTF-8");
         let (merged, lowered, ends) = (BTreeMap::new(), BTreeMap::new(), left.0.to_vec());
         let mut page = Page {
-            text, is_quirky, is_doubtful, head_end, tags, attributes, elements, texts, merged, lowered, strings, ends,
+            text, is_quirky, is_doubtful, head_end, tags, attributes, elements, texts, merged, lowered, strings, ends, xml,
         };
-        page.merged = page.with_more(&more);
-        page.lowered = page.lower();
+        if !is_xml {
+            page.merged = page.with_more(&more);
+            page.lowered = page.lower();
+        }
         page
     }
 
@@ -334,12 +391,30 @@ impl<'a> Page<'a> {
         self.lowered.get(&number).map_or_else(|| self.string(number), String::as_str)
     }
 
-    /// Returns how selectors are read.
-    fn mode(&self) -> HtmlMode {
-        if self.is_quirky {
-            HtmlMode::Quirks
-        } else {
-            HtmlMode::NoQuirks
+    /// Returns how selectors are read, if the page is in HTML.
+    fn mode(&self) -> Option<HtmlMode> {
+        match self.xml {
+            Some(_) => None,
+            None if self.is_quirky => Some(HtmlMode::Quirks),
+            None => Some(HtmlMode::NoQuirks),
+        }
+    }
+
+    /// Returns the namespaces of elements and attributes, of which the number of each is one more than its index: of a page in
+    /// HTML [`NAMESPACES`].
+    pub fn namespaces(&self) -> Vec<&str> {
+        match &self.xml {
+            Some(xml) => (xml.first..self.ends.len()).map(|number| self.string(number)).collect(),
+            None => NAMESPACES.to_vec(),
+        }
+    }
+
+    /// Returns the name of the namespace of a number, or nothing.
+    fn namespace_name(&self, number: usize) -> &str {
+        match (&self.xml, number.checked_sub(1)) {
+            (Some(xml), Some(index)) => self.string(xml.first + index),
+            (None, Some(index)) => NAMESPACES[index],
+            (_, None) => "",
         }
     }
 
@@ -404,7 +479,7 @@ impl<'a> Page<'a> {
         let mut tree = Tree::new();
         for element in self.elements() {
             let index = done(tree.push(element.parent(), self.compared(element.name_number())));
-            for at in element.firsts().filter(|it| element.adjusted(self.string(2 * it)).is_none()) {
+            for at in element.firsts().filter(|it| element.adjusted(*it).is_none()) {
                 done(tree.set_attribute(self.compared(2 * at), self.compared(2 * at + 1)));
             }
             if let Some(language) = element.language() {
@@ -425,7 +500,9 @@ impl<'a> Page<'a> {
         }
         document.set_namespaces(self.elements.iter().map(|it| it.namespace).collect());
         document.set_namespaced_attributes(self.elements().map(|it| it.namespaced()).collect());
-        document.set_html();
+        if self.mode().is_some() {
+            document.set_html();
+        }
         Document { document, mode: self.mode() }
     }
 }
@@ -433,8 +510,10 @@ impl<'a> Page<'a> {
 /// An attribute of an element, and where it is.
 #[derive(Clone, Debug, PartialEq, Eq)]
 pub struct Attribute<'p> {
-    /// The name: in lower case, but for those with capitals in SVG and MathML.
+    /// The name: in lower case, but for those with capitals in SVG and MathML. In XML it is the local name.
     pub name: &'p str,
+    /// The number of the namespace, one more than its index in [`Page::namespaces`], or 0.
+    pub namespace: usize,
     /// The value, without references.
     pub value: &'p str,
     /// The bytes of the page: from the name to the end of the value, with its quotes.
@@ -466,15 +545,20 @@ impl<'p> Element<'p> {
         2 * self.page.attributes.len() + self.index
     }
 
-    /// Returns the name: in lower case, but for those with capitals in SVG.
+    /// Returns the name: in lower case, but for those with capitals in SVG. In XML it is the local name.
     pub fn name(&self) -> &'p str {
         self.page.string(self.name_number())
     }
 
-    /// Returns the number of the namespace, one more than its index in [`NAMESPACES`]: 1 for HTML, 2 for SVG and 3 for
-    /// MathML.
+    /// Returns the number of the namespace, one more than its index in [`Page::namespaces`]: in HTML 1 for HTML, 2 for SVG and
+    /// 3 for MathML, and in XML 0 for none.
     pub fn namespace(&self) -> usize {
         self.kept().namespace
+    }
+
+    /// Whether the element is one of SVG.
+    pub fn is_drawn(&self) -> bool {
+        self.page.namespace_name(self.namespace()) == NAMESPACES[SVG - 1]
     }
 
     /// Returns the index of the parent, if there is one.
@@ -517,16 +601,17 @@ impl<'p> Element<'p> {
     /// Returns the indices of the attributes that are the first of their names.
     fn firsts(&self) -> impl Iterator<Item = usize> + 'p {
         let (page, mut names) = (self.page, BTreeSet::new());
-        self.indices().into_iter().filter(move |it| names.insert(page.string(2 * it)))
+        self.indices().into_iter().filter(move |it| page.xml.is_some() || names.insert(page.string(2 * it)))
     }
 
     /// Returns the attributes, of which each has another name. Those of an `html` or a `body` may be in several tags.
     pub fn attributes(&self) -> impl Iterator<Item = Attribute<'p>> {
-        let page = self.page;
+        let (page, element) = (self.page, *self);
         self.firsts().map(move |at| {
             let kept = &page.attributes[at];
             Attribute {
                 name: page.string(2 * at),
+                namespace: element.adjusted(at).map_or(0, |(namespace, _)| namespace),
                 value: page.string(2 * at + 1),
                 range: kept.name.start..kept.end,
                 name_range: kept.name.clone(),
@@ -535,15 +620,20 @@ impl<'p> Element<'p> {
         })
     }
 
-    /// Returns the value of an attribute, if the element has it.
+    /// Returns the value of an attribute, if the element has it: in XML of one that is in no namespace.
     pub fn attribute(&self, name: &str) -> Option<&'p str> {
-        self.attributes().find(|it| it.name == name).map(|it| it.value)
+        let is_counted = |it: &Attribute<'_>| self.page.xml.is_none() || it.namespace == 0;
+        self.attributes().find(|it| it.name == name && is_counted(it)).map(|it| it.value)
     }
 
     /// Returns the number of the namespace and the local name of an attribute that is in one (HTML Standard, "Creating
     /// and inserting nodes").
-    fn adjusted(&self, name: &str) -> Option<(usize, &'static str)> {
+    fn adjusted(&self, at: usize) -> Option<(usize, &'p str)> {
         const LINKS: [&str; 7] = ["actuate", "arcrole", "href", "role", "show", "title", "type"];
+        let name = self.page.string(2 * at);
+        if let Some(xml) = &self.page.xml {
+            return Some((xml.of_attributes[at], name)).filter(|(namespace, _)| *namespace > 0);
+        }
         if self.namespace() == HTML {
             return None;
         }
@@ -561,12 +651,16 @@ impl<'p> Element<'p> {
 
     /// Returns the attributes in namespaces.
     fn namespaced(&self) -> Vec<NamespacedAttribute<'p>> {
-        let all = self.attributes().filter_map(|it| Some((self.adjusted(it.name)?, it.value)));
+        let all = self.firsts().filter_map(|at| Some((self.adjusted(at)?, self.page.string(2 * at + 1))));
         all.map(|((namespace, name), value)| NamespacedAttribute { namespace, name, value }).collect()
     }
 
     /// Returns the language that XML names, if nothing else does.
     fn language(&self) -> Option<&'p str> {
+        if self.page.xml.is_some() {
+            let is_language = |it: &Attribute<'_>| it.namespace == XML_OF_DOCUMENTS && it.name == "lang";
+            return self.attributes().find(is_language).map(|it| it.value);
+        }
         let is_named = self.namespace() == HTML || self.attribute("lang").is_some();
         self.attribute("xml:lang").filter(|_| !is_named)
     }
@@ -574,9 +668,14 @@ impl<'p> Element<'p> {
     /// Whether the element is a link.
     fn is_link(&self) -> bool {
         let has = |name| self.attribute(name).is_some();
+        let is_in = |number: usize| self.page.namespace_name(self.namespace()) == NAMESPACES[number - 1];
+        let names_link = || self.firsts().filter_map(|at| self.adjusted(at)).any(|(space, name)| {
+            name == "href" && self.page.namespace_name(space) == NAMESPACES[XLINK - 1]
+        });
         match self.name() {
-            "a" => has("href") || self.namespace() == SVG && has("xlink:href"),
-            "area" => self.namespace() == HTML && has("href"),
+            "a" if self.page.xml.is_some() && !is_in(HTML) && !is_in(SVG) => false,
+            "a" => has("href") || is_in(SVG) && names_link(),
+            "area" => is_in(HTML) && has("href"),
             _ => false,
         }
     }
@@ -599,7 +698,7 @@ impl<'p> Element<'p> {
 /// ```
 pub struct Document<'p, 't> {
     document: super::Document<'p, 't>,
-    mode: HtmlMode,
+    mode: Option<HtmlMode>,
 }
 
 impl<'p, 't> Document<'p, 't> {
@@ -614,20 +713,23 @@ impl<'p, 't> Document<'p, 't> {
     }
 
     /// Returns lists as the page reads them.
-    fn read<'s>(&self, lists: &'s [MarkedList<'_>]) -> Vec<MarkedList<'s>> {
-        lists.iter().map(|it| done(html_marked(Global, self.mode, it))).collect()
+    fn read<'s>(mode: HtmlMode, lists: &'s [MarkedList<'_>]) -> Vec<MarkedList<'s>> {
+        lists.iter().map(|it| done(html_marked(Global, mode, it))).collect()
     }
 
     /// Returns the indices of the elements that match, as [`super::Document::select`] does.
     pub fn select(&mut self, selectors: &[Selector<'_>], most: usize) -> Result<Vec<usize>, TooManyAnswers> {
+        let Some(mode) = self.mode else {
+            return self.document.select(selectors, most);
+        };
         let length = self.document.0.len();
         super::expect_few(selectors, length, most)?;
         let mut found = alloc::vec![false; length];
         for (selector, lists) in selectors.iter().map(Selector::asking) {
-            let (selector, lists) = (done(html_selector(Global, self.mode, selector)), self.read(lists));
+            let (selector, lists) = (done(html_selector(Global, mode, selector)), Self::read(mode, lists));
             self.document.answer(&lists, most)?;
             for (index, one) in found.iter_mut().enumerate() {
-                *one = *one || self.document.node(index).map_or(false, |node| selector.matches(&node));
+                *one = *one || self.document.node(index).map_or(false, |node| super::is_matched(&selector, &node));
             }
         }
         Ok(super::places_of(&found))
@@ -635,11 +737,11 @@ impl<'p, 't> Document<'p, 't> {
 
     /// Returns the rules of a sheet as the page reads their selectors.
     pub fn rules<'s, 'a>(&self, sheet: &'s Sheet<'a>) -> HtmlSheet<'s, 'a> {
-        sheet.in_html(self.mode)
+        self.mode.map_or_else(|| sheet.in_xml(), |mode| sheet.in_html(mode))
     }
 
     /// Returns a walk along the page that finds what wins, as [`super::Document::styles`] does.
-    pub fn styles<'d, 'h, 's, 'a>(
+    pub fn styles<'d, 'h: 'd, 's, 'a>(
         &'d mut self,
         rules: &'h HtmlSheet<'s, 'a>,
         most: usize,

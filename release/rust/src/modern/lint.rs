@@ -38,7 +38,7 @@ impl Finding {
         let about = found.kind.about();
         let written = |text: crate::erased::css_lint::Meant| [text.sign, text.name].concat();
         Finding {
-            kind: about.words,
+            kind: found.kind.words(),
             meaning: about.text,
             severity: about.severity.word(),
             range: found.start..found.end,

@@ -1,20 +1,16 @@
 //! Pages of elements of a person's own type, on which lists of selectors are answered.
-use super::{short, Element, Keyed, NamespacedAttribute, Own, Selector, Sheet, Source, TooManyAnswers, Winner};
+use super::{short, Element, Keyed, NamespacedAttribute, Own, Selector, Sheet, TooManyAnswers, Winner};
 use crate::done;
 use crate::erased::css_matching::Tests;
 use crate::erased::css_selectors::{
-    self, matches_any, meets, Combinator, Complex, Condition, ListTest, MarkedList, Matching as _, Nesting, Part,
-    Progression, Simple,
+    self, matches_any, meets, Combinator, Complex, ListTest, MarkedList, Part, Progression,
 };
-use crate::erased::{css_index, css_sheet, css_styles};
+use crate::erased::{css_index, css_styles};
 use crate::rattle_std::alloc::Global;
 use crate::rattle_std::vec::Vec as ProvedVec;
 use crate::tree::NoElement;
 use alloc::vec;
 use alloc::vec::Vec;
-
-/// The number of a list that has every element. Rules that are known to match ask it.
-const EVERY: usize = usize::MAX - 1;
 
 /// Where an element is.
 struct Place {
@@ -32,7 +28,7 @@ struct Place {
 /// is, the numbers of siblings too.
 ///
 /// ```
-/// use simplecss::modern::{Document, Options, Page, Selector, Sheet};
+/// use simplecss::modern::{Document, Options, Page, Selector, Sheet, Text};
 /// use simplecss::tree::Tree;
 ///
 /// // Elements of any type that implements `Element` and `Keyed`: here those of a ready tree.
@@ -49,12 +45,19 @@ struct Place {
 /// let selectors = Selector::parse_list("ul:has(> li > a), li:has(> li)").unwrap();
 /// assert_eq!(page.select(&selectors, 1_000_000).unwrap(), [list]);
 ///
-/// let text = "ul { > li { color: red; & a { color: blue } } }";
-/// let sheet = Sheet::parse(text, &Options::default()).unwrap();
+/// let text = Text::sheet("ul { > li { color: red; & a { color: blue } } }");
+/// let sheet = Sheet::parse(&text, &Options::default()).unwrap();
 /// let mut styles = page.styles(&sheet, 1_000_000).unwrap();
-/// assert!(styles.style(list, "", "color").is_none());
-/// assert_eq!(styles.style(item, "", "color").unwrap().declaration.value, "red");
-/// assert_eq!(styles.style(link, "", "color").unwrap().declaration.value, "blue");
+/// assert!(styles.style(list, (), "color").is_none());
+/// assert_eq!(styles.style(item, (), "color").unwrap().declaration.value, "red");
+/// assert_eq!(styles.style(link, (), "color").unwrap().declaration.value, "blue");
+///
+/// // `:has()` cannot be nested, also not by way of `&`.
+/// let text = Text::sheet("li:has(a) { ul:has(&) { color: red } } li { ul:has(&) { margin: 0 } }");
+/// let sheet = Sheet::parse(&text, &Options::default()).unwrap();
+/// let mut styles = page.styles(&sheet, 1_000_000).unwrap();
+/// assert!(styles.style(list, (), "color").is_none());
+/// assert!(styles.style(list, (), "margin").is_some());
 /// ```
 pub struct Page<E> {
     elements: Vec<E>,
@@ -151,7 +154,7 @@ impl<E: Element> Page<E> {
         for (selector, lists) in selectors.iter().map(Selector::asking) {
             let lists = self.answers(lists, most)?;
             for (index, one) in found.iter_mut().enumerate() {
-                *one = *one || selector.matches(&Spot { page: self, lists: &lists, index });
+                *one = *one || super::is_matched(selector, &Spot { page: self, lists: &lists, index });
             }
         }
         Ok(super::places_of(&found))
@@ -170,7 +173,7 @@ impl<E: Element> Page<E> {
         Ok(PageStyles {
             page: self,
             lists: self.answers(sheet.rules.lists(), most)?,
-            rules: sheet.rules.as_slice(),
+            rules: &sheet.rules,
             walk: done(css_index::SelectorWalk::new(Global, sheet.rules.as_slice())),
             open: Vec::new(),
             last: None,
@@ -179,18 +182,28 @@ impl<E: Element> Page<E> {
         })
     }
 
-    /// Answers lists for each element, one after another: each asks only those before it.
+    /// Answers lists for each element, one after another: each asks only those before it. Within `:has()` no other
+    /// `:has()` holds, also none that an `&` reaches, so from the first one on lists are answered twice.
     fn answers(&self, lists: &[MarkedList<'_>], most: usize) -> Result<Vec<Vec<bool>>, TooManyAnswers> {
         match lists.len().checked_mul(self.len()) {
             Some(count) if count <= most => {}
             _ => return Err(TooManyAnswers),
         }
-        let mut answers = Vec::with_capacity(lists.len());
+        let (mut own, mut inside, mut differ) = (Vec::new(), Vec::new(), false);
         for list in lists {
-            let answer = self.answer(&answers, list);
-            answers.push(answer);
+            let within = self.answer(&inside, list);
+            let (one, within) = match list {
+                MarkedList::Tested(ListTest::Has, _) => {
+                    differ = true;
+                    (within, vec![false; self.len()])
+                }
+                _ if differ => (self.answer(&own, list), within),
+                _ => (within.clone(), within),
+            };
+            own.push(one);
+            inside.push(within);
         }
-        Ok(answers)
+        Ok(own)
     }
 
     /// Returns for each element whether it is in a list.
@@ -242,7 +255,7 @@ impl<E: Element> Page<E> {
 
 /// Whether one of the selectors matches.
 fn is_any<E: Element>(selectors: &[css_selectors::Selector<'_>], spot: &Spot<'_, E>) -> bool {
-    selectors.iter().any(|it| it.matches(spot))
+    selectors.iter().any(|it| super::is_matched(it, spot))
 }
 
 /// An element of a page on which lists are answered.
@@ -318,7 +331,6 @@ impl<E: Element> Element for Spot<'_, E> {
     fn is_in_list(&self, number: usize) -> bool {
         match number {
             0 => self.own().is_in_list(0),
-            EVERY => true,
             _ => self.lists.get(number - 1).map_or(false, |it| it[self.index]),
         }
     }
@@ -343,7 +355,7 @@ impl<E: Keyed> Keyed for Spot<'_, E> {
 pub struct PageStyles<'p, 's, 'a, E> {
     page: &'p Page<E>,
     lists: Vec<Vec<bool>>,
-    rules: &'s [css_sheet::SheetRule<'a>],
+    rules: &'s css_styles::StyleRules<'a>,
     walk: css_index::SelectorWalk<'s, 'a>,
     /// The indices of the elements that are open.
     open: Vec<usize>,
@@ -374,15 +386,7 @@ impl<'a, E: Keyed> PageStyles<'_, '_, 'a, E> {
     /// element at the index.
     pub fn style(&mut self, index: usize, own: impl Into<Own<'a>>, property: &str) -> Option<Winner<'a>> {
         self.matching(index);
-        let matched: Vec<_> = self.indices.iter().map(|it| as_matched(&self.rules[*it])).collect();
-        let spot = Spot { page: self.page, lists: &self.lists, index };
-        let found = css_styles::winning(Global, &matched, &spot, short(own.into()), property);
-        let found = done(found)?;
-        let source = match found.source {
-            Source::Rule(place) => Source::Rule(self.indices[place]),
-            other => other,
-        };
-        Some(Winner { source, ..found })
+        super::winner_by(self.rules, &self.indices, short(own.into()), property)
     }
 
     /// Opens an element and those above it, and closes all others.
@@ -403,12 +407,4 @@ impl<'a, E: Keyed> PageStyles<'_, '_, 'a, E> {
             self.open.push(index);
         }
     }
-}
-
-/// Returns a rule that is known to match: its selector matches every element, and has the specificity of the rule's.
-fn as_matched<'a>(rule: &css_sheet::SheetRule<'a>) -> css_sheet::SheetRule<'a> {
-    let every = Nesting { number: EVERY, specificity: rule.selector.specificity() };
-    let conditions = ProvedVec(vec![Condition::Simple(Simple::Nesting(every))]);
-    let parts = ProvedVec(vec![Part { combinator: Combinator::Descendant, conditions }]);
-    css_sheet::SheetRule { selector: css_selectors::Selector::new(parts, None), ..*rule }
 }

@@ -18,7 +18,7 @@ pub mod vec;
 pub mod prelude {
     pub use super::boxed::Box;
     pub use super::options::IsSomeAnd;
-    pub use super::slices::FirstChunk;
+    pub use super::slices::{FirstChunk, TrimAscii};
     pub use super::string::{Joined, Lowercase, String, ToString};
     pub use super::vec::Vec;
     pub use core::prelude::rust_2021::*;

@@ -41,14 +41,25 @@ impl String {
         &self.0
     }
 
+    /// Makes room for so many more bytes, where there is less.
+    #[inline]
+    fn make_room(&mut self, n: usize) -> Result<(), AllocError> {
+        if self.0.capacity() - self.0.len() >= n {
+            return Ok(());
+        }
+        self.0.try_reserve(n).map_err(|_| AllocError)
+    }
+
+    #[inline]
     pub fn push_str(&mut self, text: &str) -> Result<(), AllocError> {
-        self.0.try_reserve(text.len()).map_err(|_| AllocError)?;
+        self.make_room(text.len())?;
         self.0.push_str(text);
         Ok(())
     }
 
+    #[inline]
     pub fn push(&mut self, character: char) -> Result<(), AllocError> {
-        self.0.try_reserve(4).map_err(|_| AllocError)?;
+        self.make_room(4)?;
         self.0.push(character);
         Ok(())
     }
