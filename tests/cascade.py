@@ -11,7 +11,7 @@ import json
 import random
 from typing import Any, Dict, Iterator, List, Optional, Sequence, Tuple
 
-from tests.common import Case, browser_answers, count, package, read, row, rows
+from tests.common import Case, browser_answers, count, in_turns, package, read, row, rows
 
 package()
 from simplecss import StyleSheet, Tree, compare  # noqa: E402
@@ -377,7 +377,7 @@ class Cascade(Case):
                     found.append([*mine, "0px" if margin is None else margin.value])
             return rows(case, found, due)
 
-        self.against(lambda asked: computed(PAGE, names, asked), cases, question)
+        self.against(in_turns(lambda asked: computed(PAGE, names, asked)), cases, question)
 
     def test_compared(self) -> None:
         """Where the browser computes another value by a changed sheet, `compare` names the property."""

@@ -44,6 +44,8 @@ from tests.release import (
     DRAWING,
     PIECES,
     PRINTED,
+    UNUSED,
+    PROJECT,
     Cargo,
     Release,
     framed,
@@ -53,6 +55,12 @@ from tests.release import (
     unpack,
 )
 
+# A program over the crate `simplecss`.
+OF_PATCHED = """fn main() {
+    let selector = simplecss::Selector::parse(".note").unwrap();
+    println!("{} {:?}", selector, selector.specificity());
+}
+"""
 # Where a bare Debian comes from.
 MIRROR = "http://deb.debian.org/debian"
 FEATURES = ("", "std", "log", "modern", "std,log,modern", "bits32")
@@ -749,6 +757,7 @@ class Library(Checkout):
             with self.subTest(words=words):
                 self.needs(words[0], "examples/c/page.c over the C library of a checkout")
                 self.assertEqual(self.page_by(words, package, folder), PRINTED)
+                self.assertEqual(self.page_by(words, package, folder, "unused.c"), UNUSED)
         if os.path.exists(os.path.join(TOP, "out", "libsimplecss.so")):
             folder = os.path.dirname(library_path())
             self.assertEqual(self.page_by(["cc", "-std=c99"], package, folder), PRINTED)
@@ -769,7 +778,7 @@ class Library(Checkout):
         package, folder = self.built()
         self.needs("cc", "what the C library of a checkout keeps")
         archive = os.path.join(folder, "libsimplecss.a")
-        for name in ("kept_lists.c", "kept_pages.c"):
+        for name in ("kept_lists.c", "kept_sheets.c", "kept_pages.c", "kept_queries.c"):
             with self.subTest(program=name):
                 check_kept(self, ["cc", f"-I{package}"], archive, name)
         check_objects(self, package, folder)
@@ -792,11 +801,13 @@ class Library(Checkout):
         made = os.path.join(cargo.environment["CARGO_TARGET_DIR"], ARM, "release")
         self.emulate(made, "qemu-arm", machine)
 
-    def page_by(self, words: Sequence[str], package: str, folder: str) -> bytes:
-        """What the example prints where a compiler links it with the library of a folder."""
-        source, made = os.path.join(self.top, "examples/c/page.c"), os.path.join(self.folder, "p")
+    def page_by(
+        self, words: Sequence[str], package: str, folder: str, name: str = "page.c"
+    ) -> bytes:
+        """What an example prints where a compiler links it with the library of a folder."""
+        source, made = os.path.join(self.top, "examples/c", name), os.path.join(self.folder, "p")
         words = [*words, "-Wall", "-Wextra", "-pedantic", "-Werror", f"-I{package}", source]
-        self.works([*words, "-o", made, f"-L{folder}", "-lsimplecss"], "page.c")
+        self.works([*words, "-o", made, f"-L{folder}", "-lsimplecss"], name)
         return run([made], env={"LD_LIBRARY_PATH": folder}).stdout
 
 
@@ -973,7 +984,8 @@ class Setup(Checkout):
 
 
 class Bare(Checkout):
-    """The lines of the documents in a bare Debian 12, as they are written there."""
+    """The lines of the documents in a bare Debian 12, as they are written there. For JavaScript it has no
+    Rust that is new enough and compiles for WebAssembly."""
 
     LINES = r"<!-- on Debian 12 -->\n((?: {4}.*\n)+)"
 
@@ -1008,10 +1020,31 @@ class Bare(Checkout):
         words = ["chroot", self.root, "/bin/sh", "-c", f"cd /checkout && {line}"]
         return self.works(words, line, env=environment).stdout.decode()
 
+    def lines(self) -> List[str]:
+        """Those of INSTALL, of which the first installs packages."""
+        (lines,) = re.findall(self.LINES, read(self.top, "docs", "INSTALL.md"))
+        return [line.strip() for line in lines.splitlines()]
+
+    def test_rust(self) -> None:
+        """The README's lines for Rust, for a program that names the crate 0.2."""
+        self.types(self.lines()[0])
+        page = read(self.top, "README.md")
+        (line,), (patch,) = re.findall(r"`(tools/erase\.py vendor/\S+)`", page), re.findall(
+            r"```toml\n(.*?)```", page, re.DOTALL
+        )
+        folder = os.path.join(self.root, "first")
+        os.makedirs(os.path.join(folder, "src"))
+        needed = 'simplecss = { version = "0.2", default-features = false, features = ["std"] }\n'
+        write(
+            os.path.join(folder, "Cargo.toml"), PROJECT.format(name="first", needs=needed) + patch
+        )
+        write(os.path.join(folder, "src", "main.rs"), OF_PATCHED)
+        shown = self.types(f"cd /first && /checkout/{line} && cargo run -q --offline")
+        self.assertEqual(shown, "*[class~='note'] [0, 1, 0]\n")
+
     def test_lines(self) -> None:
         """Those of INSTALL for Python, and those of the README for the command and for C."""
-        (lines,) = re.findall(self.LINES, read(self.top, "docs", "INSTALL.md"))
-        shown = [self.types(line.strip()) for line in lines.splitlines()]
+        shown = [self.types(line) for line in self.lines()]
         self.assertEqual(shown[-1], read(self.top, "examples", "pages", "mail.inlined.html"))
         page = read(self.top, "README.md")
         for name in ("inline", "style", "lint"):

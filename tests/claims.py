@@ -24,10 +24,10 @@ from tools.mutants import load_build
 # The crates whose functions are called from outside, and the file and the names where that begins.
 ROOTS = (
     ("cssq_cli", "src/main.rt", re.compile("main")),
-    ("simplecss_c", "src/exports.rt", re.compile("simplecss_.*")),
-    ("simplecss_c", "src/lists.rt", re.compile("simplecss_.*")),
-    ("simplecss_c", "src/pages.rt", re.compile("simplecss_.*")),
-    ("simplecss_c", "src/clean.rt", re.compile("simplecss_.*")),
+    *(
+        ("simplecss_c", f"src/{name}.rt", re.compile("simplecss_.*"))
+        for name in "clean edits exports html inline lists pages queries sheets".split()
+    ),
 )
 
 HEAD = re.compile(r"( *)(?:pub(?:\(crate\))? )?(?:extern \"C\" )?fn (\w+)")

@@ -12,7 +12,8 @@ function use({ properties, pseudos, media, itself }) {
     ITSELF = itself;
 }
 const OTHER_FUNCTION = /\b(?!(?:rgb|rgba|hsl|hsla|calc|var)\b)[-a-z]+\(/i;
-const isFine = value => !/evil/.test(value) && !OTHER_FUNCTION.test(value);
+// A value with `var()` stays as it is written: with any name after `@`, which the policy refuses, and with escapes, which it may need.
+const isFine = value => !/evil|[@\\]/.test(value) && !OTHER_FUNCTION.test(value);
 const newlines = text => text.replace(/\r\n?/g, "\n");
 
 // ---- style attributes
@@ -90,14 +91,15 @@ function inner(selector) {
 function mayBeUnder(whole) {
     const { text: selector, joined } = inner(whole);
     if (selector == "") return ITSELF && !joined;
-    const plain = selector.replace(/"[^"]*"/g, '""');
-    if (/[&|\\<{}@]/.test(plain) || /[<{}\\@]/.test(selector)) return false;
+    // Escapes are written anew, so that nothing of them is refused.
+    const bare = selector.replace(/\\(?:[0-9a-f]{1,6} ?|.)/gi, "x"), plain = bare.replace(/"[^"]*"/g, '""');
+    if (/[&|<{}@]/.test(plain) || /[<{}@]/.test(bare)) return false;
     for (const found of plain.matchAll(/::?([-\w]+)/g)) if (!PSEUDOS.has(found[1])) return false;
     return !/^[>+~]/.test(plain);
 }
 function mayBeMedia(text) {
     return text == "" || text != "not all" && !/[<>=]/.test(text)
-        && [...text.matchAll(/(?<![\d.])[a-zA-Z][-\w]*/g)].every(x => WORDS.has(x[0].toLowerCase()));
+        && [...text.matchAll(/(?<![-\w.])[a-zA-Z][-\w]*/g)].every(x => WORDS.has(x[0].toLowerCase()));
 }
 function walk(rules, media, found, isTop) {
     for (const rule of rules) {
@@ -188,6 +190,63 @@ function sheet([raw, clean, policy]) {
         after: inPage(clean), before: inPage(raw) };
 }
 
+// ---- at-rules
+
+// The at-rules with rules in them: the name, and what is between it and the block.
+const HEADS = {
+    CSSMediaRule: rule => ["@media", rule.media.mediaText],
+    CSSSupportsRule: rule => ["@supports", rule.conditionText],
+    CSSContainerRule: rule => ["@container", rule.conditionText],
+    CSSLayerBlockRule: rule => ["@layer", rule.name],
+    CSSKeyframesRule: rule => [/^@[-a-z]+/.exec(rule.cssText)[0], rule.name],
+};
+const NAMED = new Set(["@layer", "@keyframes"]);
+// The at-rules of a text, each with its rules: the list of selectors or of frames, and the color, if there is one.
+function groups(text) {
+    const sheet = new CSSStyleSheet();
+    sheet.replaceSync(text);
+    const others = [];
+    const found = [...sheet.cssRules].filter(rule => rule.constructor.name != "CSSStyleRule").map(rule => {
+        const kind = rule.constructor.name;
+        if (!(kind in HEADS)) others.push(kind);
+        const rules = [...rule.cssRules || []].map(one => [one.selectorText ?? one.keyText, one.style?.color,
+            one.style?.length, one.constructor.name]);
+        return { head: kind in HEADS ? HEADS[kind](rule) : [kind, ""], rules };
+    });
+    return { found, others };
+}
+// Whether a name may have a prefix, and a condition has nothing but what is listed.
+function isHead([name, text], at) {
+    if (name != "@media" && !at.includes(name)) return false;
+    if (NAMED.has(name)) return /^[-\w\u0080-\uffff]+$/.test(text);
+    if (name == "@supports") return !/["'<>=]|[-\w]\(/.test(text);
+    return mayBeMedia(text) && !/[-\w]\(/.test(text);
+}
+// Whether a rule in an at-rule is kept.
+function isInner(head, [list, color, , kind]) {
+    if (head == "@keyframes") return kind == "CSSKeyframeRule" && color && /^[\d.]+%(, [\d.]+%)*$/.test(list);
+    return kind == "CSSStyleRule" && color && split(list).every(mayBeUnder);
+}
+// What is due of the at-rules of a raw text.
+function due({ found }, at, prefix) {
+    return found.filter(({ head }) => isHead(head, at)).map(({ head: [name, text], rules }) => {
+        const kept = rules.filter(one => isInner(name, one));
+        return { head: [name, NAMED.has(name) ? prefix + text : text],
+            rules: kept.map(([list, color]) => [name == "@keyframes" ? list : under(split(list)), color]) };
+    }).filter(({ rules }) => rules.length);
+}
+function atRules([raw, clean, policy]) {
+    use(policy);
+    const after = groups(clean), wanted = due(groups(raw), policy.at, policy.prefix);
+    const made = after.found.map(({ head, rules }) => ({ head,
+        rules: rules.map(([list, color]) => [split(list).join(), color]) })).filter(({ rules }) => rules.length);
+    const listed = wanted.map(({ head, rules }) => ({ head,
+        rules: rules.map(([list, color]) => [split(list).join(), color]) }));
+    return { wanted: JSON.stringify(listed), made: JSON.stringify(made), others: after.others,
+        long: after.found.flatMap(({ rules }) => rules).filter(([, , length]) => length != 1).length,
+        after: inPage(clean) };
+}
+
 // ---- threats
 
 // Puts texts into the page, each where it belongs.
@@ -207,5 +266,5 @@ window.onload = () => {
     if (input.kind == "threats") {
         input.work.forEach(threat);
         setTimeout(() => answer([]), 3000);
-    } else answer(input.work.map(input.kind == "style" ? style : sheet));
+    } else answer(input.work.map({ style, sheet, atRules }[input.kind]));
 };

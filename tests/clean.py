@@ -11,6 +11,7 @@ from __future__ import annotations
 
 import ctypes
 import http.server
+import itertools
 import os
 import random
 import re
@@ -20,11 +21,11 @@ from typing import Any, Dict, Iterable, List, NamedTuple, Optional, Sequence, Se
 from tests.common import TOP, Case, browser_answers, count, library_path, row
 from tests.library_calls import (
     DONE,
-    LISTS,
     NO_LIMIT,
     PolicyArrays,
     call,
     lines_of,
+    listed_policy,
     numbers_call,
     policy_of,
 )
@@ -37,10 +38,20 @@ PAGE = """<!DOCTYPE html><html class=host style="--host:5px"><meta charset=utf-8
 <div><p>q</p><a>z</a></div><input value=abc></div><p class=x>after</p><a b="}">x</a></div>
 <div id=slot></div><script>const input = %s;</script><script>SCRIPT</script>"""
 # What the C library is asked for: to clean a text of a form, and whether one is clean.
-SHEET, STYLE, IS_CLEAN = 0, 1, 2
+SHEET, STYLE, IS_CLEAN, URLS = 0, 1, 2, 6
 # The policy of the tests, besides the pseudo-classes and the words of media queries for mails.
 PROPERTIES = (b"color", b"background", b"background-color", b"width", b"font-size")
 FUNCTIONS = (b"rgb", b"rgba", b"hsl", b"hsla", b"calc", b"var")
+
+# What a policy has where urls are answered.
+URL_PROPERTIES = (
+    *(b"background", b"content", b"cursor", b"list-style", b"list-style-image", b"mask", b"border"),
+    *(b"border-image", b"font-family", b"shape-outside"),
+)
+URL_FUNCTIONS = (
+    *(b"url", b"src", b"image", b"image-set", b"-webkit-image-set", b"-webkit-cross-fade", b"type"),
+    *(b"var", b"attr", b"if", b"linear-gradient"),
+)
 
 # Pieces of style attributes: what is rare, and what goes on after it.
 # fmt: off
@@ -71,6 +82,26 @@ PIECES = (
 )
 # fmt: on
 
+# Declarations with urls, each with `$` for one of its own, and what may carry one to another.
+# fmt: off
+URL_PIECES = (
+    'background:url($)', "background:url('$')", 'background:URL( "$" )', 'background:u\\72l($)',
+    "background:url('$'),url($)", "background:image-set('$' 1x, url($) 2x)",
+    "background:image-set('$' type('image/png'))", "background:-webkit-image-set('$' 1x)",
+    "background:image-set(var(--a) 1x)", "background:src('$')", "background:src(var(--a))",
+    "background:image('$')", '--a:url($)', "--a:'$'", '--b:image-set(var(--a) 1x)',
+    'background:var(--a)', 'background:var(--b)', 'background:var(--q-a)', 'background:var(--none,url($))',
+    "background:url(var(--a))", "content:'$'", "content:url($)", "content:image-set('$' 1x)",
+    "content:'a' image-set(attr(data-u) 1x)", "content:attr(data-u type(<image>))",
+    "background:image-set(attr(data-u) 1x)", "background:attr(data-u type(<url>))",
+    "cursor:url('$'),auto", 'list-style:url($)', 'list-style-image:url("$")', 'mask:url($)',
+    'border:1px solid;border-image:url($) 1', 'background:-webkit-cross-fade(url($),url($),50%)',
+    "background:url('$", 'background:url($', "background:url('\\$')", 'background:url("$"x)',
+    "background:url($)!important", "--a:1;background:if(style(--a:1):url($);else:none)",
+    "background:linear-gradient(red,blue),url($)", "font-family:'$'", 'shape-outside:url($)',
+)
+# fmt: on
+
 # Preludes of rules, and what is none.
 # fmt: off
 SELECTORS = (
@@ -89,6 +120,7 @@ SELECTORS = (
     'p:first-child', '|a', '*|a', 'p:lang(en)', ':scope', ':scope p', ':scope ~ p', 'div:target',
     'html body > p', ':root p, BODY a', 'body.x p', ':host > *', 'body + p', 'body>', 'html>body b',
     'a@b', 'a;b', 'a!b', '(a)', 'a[b', 'a]', '.a\\:b .c\\/d', '.w-1\\/2', 'a\\,b', '.a\\{b',
+    '.\\31 0', '.\\2c x', '\\62 ody p', '.\\a', '.a\\3c b', '\\26  p', 'a\\20 b',
 )
 # fmt: on
 
@@ -104,6 +136,28 @@ DECLARATIONS = (
     'width:calc(1px + 2px)', 'animation:k 1s', "content:'x'", 'color:red}p{color:green',
     'width:2px;;', '~p{color:red}', '@layer x{*{color:red}}',
 )
+# fmt: on
+
+# At-rules, what is in them, and which of them a policy may list.
+# fmt: off
+AT_RULES = (
+    '@media screen', '@media (min-width:1px)', '@media (width>1px)', '@MEDIA all',
+    '@supports (display:grid)', '@supports (color:red) and (not (float:none))', '@supports selector(a)',
+    '@supports (color:rgb(0 0 0))', '@supports (background:url(http://evil/1))', "@supports (content:'x')",
+    '@supports (width:50%) or (color:#fff)', '@supports (--a:b)', '@SUPPORTS (color:red)',
+    '@container (min-width:1px)', '@container host (min-width:1px)', '@container style(--host:1)',
+    '@container not (orientation:landscape)', '@layer host', '@layer', '@layer a,host;', '@layer a.b',
+    '@layer h\\6fst', '@LAYER b', '@layer\tc ', '@layer 1a', '@keyframes k', '@keyframes "k"',
+    '@KEYFRAMES k', '@-webkit-keyframes k', '@keyframes k-2', '@keyframes k l', '@font-face',
+    '@counter-style k', '@scope (a)', '@property --x', '@page', '@starting-style', '@\\6c ayer d', '',
+)
+IN_AT_RULES = (
+    'p{color:red}', 'a, b > a{color:green}', 'body{color:blue}', '~ p{color:red}', 'from{color:red}',
+    'to{color:green}', '0%, 50.5%{color:blue}', '20%{position:fixed}', 'entry 0%{color:red}',
+    'p{position:fixed}', '@media print{p{color:red}}', '@layer host{p{color:red}}', 'a{color:red;b{color:blue}}',
+    '}', '/*', "'", 'color:red;', '150%{color:red}', 'FROM{color:red}', ':root a{color:red}',
+)
+LISTED_AT_RULES = (b"@supports", b"@container", b"@layer", b"@keyframes")
 # fmt: on
 
 # Each threat: its name, where it is, the text, with `$` for a url of its own, and whether the browser
@@ -234,7 +288,7 @@ class Cleaner:
         self.library = ctypes.CDLL(library_path())
         lines = lines_of(self.library, "mail")
         self.reasons = [each.decode() for each in lines["reasons"]]
-        self.mail = policy_of(b".mail", *(lines[each] for each in LISTS))
+        self.mail = listed_policy(self.library, b".mail", "mail")
         self.names = Names(PROPERTIES, lines["pseudos"], lines["media"])
         self.tests = self.names.arrays()
 
@@ -314,6 +368,23 @@ def random_styles(number: int) -> List[str]:
     ]
 
 
+def random_urls(number: int, base: str) -> List[Tuple[str, str]]:
+    """Random style attributes and rules with urls, each with its form."""
+    chance = random.Random(95)
+    made = []
+    for index in range(number):
+        pieces = ";".join(chance.choice(URL_PIECES) for _ in range(chance.randint(1, 4)))
+        parts = pieces.split("$")
+        urls = [f"{base}{index}-{at}" for at in range(len(parts) - 1)]
+        text = "".join(
+            itertools.chain.from_iterable(itertools.zip_longest(parts, urls, fillvalue=""))
+        )
+        made.append(
+            ("style", text) if index % 4 else ("sheet", f"p:nth-child({index + 4}){{{text}}}")
+        )
+    return made
+
+
 def random_rule(chance: random.Random) -> str:
     """A random rule, which may be none."""
     inner = (
@@ -331,6 +402,18 @@ def random_sheets(number: int) -> List[str]:
     ]
 
 
+def random_at_rules(number: int) -> List[str]:
+    """Random sheets of at-rules."""
+    chance = random.Random(97)
+
+    def one() -> str:
+        """An at-rule, which may be none."""
+        inner = "".join(chance.choice(IN_AT_RULES) for _ in range(chance.randint(0, 3)))
+        return f"{chance.choice(AT_RULES)}{{{inner}}}"
+
+    return ["".join(one() for _ in range(chance.randint(1, 3))) for _ in range(number)]
+
+
 def random_names(number: int, usual: Names) -> List[Names]:
     """Random policies, of some names of the usual one."""
     chance = random.Random(94)
@@ -346,9 +429,9 @@ def random_names(number: int, usual: Names) -> List[Names]:
 
 
 def is_refused(text: str) -> bool:
-    """Whether the text may have what the policy refuses and the browser's object model hides: an escape, a
-    comment, a string, a namespace, or U+0000."""
-    return bool(re.search(r"[\\'\"\0|]|/\*", text))
+    """Whether the text may have what the policy refuses and the browser's object model hides: a comment, a string, a
+    namespace, or U+0000."""
+    return bool(re.search(r"['\"\0|]|/\*", text))
 
 
 def of_style(case: Tuple[str, str], said: Dict[str, Any]) -> Iterable[Optional[str]]:
@@ -369,6 +452,15 @@ def of_sheet(case: Tuple[str, str], said: Dict[str, Any]) -> Iterable[Optional[s
     if not is_refused(raw):
         yield row(f"{raw!r} -> {clean!r}, lost", said["lost"], [])
         yield row(f"{raw!r} -> {clean!r}, added", said["more"], [])
+
+
+def of_at_rules(case: Tuple[str, str], said: Dict[str, Any]) -> Iterable[Optional[str]]:
+    """A row for each question about a sheet of at-rules and what is kept of it."""
+    raw, clean = case
+    yield row(f"{raw!r} -> {clean!r}, in the page", said["after"], {"framed": True, "same": True})
+    yield row(f"{raw!r} -> {clean!r}, others", [said["others"], said["long"]], [[], 0])
+    if not is_refused(raw) and "\\" not in raw:
+        yield row(f"{raw!r} -> {clean!r}, at-rules", said["made"], said["wanted"])
 
 
 def without(text: str, pieces: Sequence[Tuple[int, int, str]]) -> str:
@@ -418,6 +510,41 @@ class Clean(Case):
                 self.assertEqual(
                     f"/u{number}" in raw, is_requested, f"{name} is requested as it is"
                 )
+
+    def test_urls(self) -> None:
+        """Of random style attributes and rules, whose urls are answered at random, the browser requests what was
+        answered, and nothing else."""
+        server = Server()
+        self.addCleanup(server.close)
+        raw = random_urls(count(300), server.base)
+        chance, answered, made = random.Random(96), set(), []
+        for form, text in raw:
+            urls = self.cleaner.bytes_of(
+                "simplecss_clean", text.encode("utf-8"), self.cleaner.tests, URLS
+            )
+            answers = {}
+            for url in urls.split(b"\0")[:-1]:
+                if url.startswith(server.base.encode()) and chance.random() < 0.6:
+                    answers[url] = url + chance.choice((b"", b"/other", b"/(%20')"))
+            answered |= {answer.decode()[len(server.base) - 1 :] for answer in answers.values()}
+            lists = URL_PROPERTIES, URL_FUNCTIONS, (b"content", b"font-family"), (), ()
+            policy = policy_of(b"#mail", *lists, prefix=b"q-", urls=list(answers.items()))
+            kept = self.cleaner.made(text, STYLE if form == "style" else SHEET, policy).text
+            again = "simplecss_clean", kept.encode("utf-8"), policy
+            form_asked = IS_CLEAN + (STYLE if form == "style" else SHEET)
+            self.assertEqual(self.cleaner.bytes_of(*again, form_asked), b"true", kept)
+            made.append((form, kept))
+        before, after = server.paths(raw[:300]), set()
+        if before is None:
+            self.skipTest("no browser answers")
+        for at in range(0, len(made), 1000):
+            found = server.paths(made[at : at + 1000])
+            if found is None:
+                self.skipTest("no browser answers")
+            after |= found
+        self.assertEqual(after - answered, set(), "requested, and not answered")
+        self.assertGreater(len(after), len(answered) // 4, "nothing to judge")
+        self.assertTrue(before - answered, "nothing to judge")
 
     def test_styles(self) -> None:
         """Random style attributes: nothing outside of the policy, nothing ended, nothing lost."""
@@ -482,6 +609,29 @@ class Clean(Case):
         answers = self.sheets(raw, policies)
         kept = [one for one in answers if one["kept"]]
         self.assertGreater(len(kept), len(answers) // 40, "nothing to judge")
+
+    def test_at_rules(self) -> None:
+        """Random sheets of at-rules, each by a random policy: those that it lists are there, in order, with the prefix of
+        their names, and no other."""
+        raw, chance, made, said = random_at_rules(count(1000)), random.Random(98), [], []
+        names, prefix = self.cleaner.names, b"q-"
+        for text in raw:
+            listed = [each for each in LISTED_AT_RULES if chance.random() < 0.7]
+            media = (*names.media, *listed)
+            policy = policy_of(b".mail", (b"color",), (), (), names.pseudos, media, prefix=prefix)
+            kept = self.cleaner.made(text, SHEET, policy)
+            self.assertNotIn("unclean", [each[2] for each in kept.dropped], text)
+            again = self.cleaner.bytes_of(
+                "simplecss_clean", kept.text.encode(), policy, IS_CLEAN + SHEET
+            )
+            self.assertEqual(again, b"true", kept.text)
+            made.append(kept.text)
+            at = [each.decode() for each in listed]
+            said.append({**names.said(), "at": at, "prefix": prefix.decode()})
+        answers = ask("atRules", list(zip(raw, made, said)))
+        self.against(lambda asked: answers, list(zip(raw, made)), of_at_rules)
+        kept_some = [one for one in answers or [] if one["made"] != "[]"]
+        self.assertGreater(len(kept_some), len(answers or []) // 8, "nothing to judge")
 
     def test_dropped(self) -> None:
         """A text without the pieces that are dropped has the rest of it, and nothing is dropped."""

@@ -52,6 +52,8 @@ DEBIAN = "/usr/bin/python3"
 PLACES = ("crates/{0}/out/{0}", "out/{0}", "out/unproved/{0}")
 # How many of the failures of a sweep are shown.
 SHOWN = 10
+# How many inputs are on a page: a browser answers in the time that it has for one.
+ON_A_PAGE = 1000
 # By `prctl`, in Linux: an orphan below a process becomes a child of it.
 PR_SET_CHILD_SUBREAPER = 36
 
@@ -102,6 +104,23 @@ class Case(unittest.TestCase):
             print(f"{self.id()}: {len(compared)} compared, {len(rows) - len(compared)} left out")
         self.sweep(len(compared), [row for row in compared if row is not None])
         return len(rows) - len(compared)
+
+
+def in_turns(
+    judge: Callable[[List[Input]], Optional[Sequence[Any]]],
+) -> Callable[[List[Input]], Optional[List[Any]]]:
+    """A judge that asks this one page by page."""
+
+    def judged(asked: List[Input]) -> Optional[List[Any]]:
+        found: List[Any] = []
+        for start in range(0, len(asked), ON_A_PAGE):
+            answers = judge(asked[start : start + ON_A_PAGE])
+            if answers is None:
+                return None
+            found += answers
+        return found
+
+    return judged
 
 
 def row(what: object, found: Any, due: Any) -> Optional[str]:

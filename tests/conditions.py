@@ -18,7 +18,7 @@ import shutil
 import subprocess
 from typing import Any, Callable, Dict, Iterator, List, NamedTuple, Optional, Sequence
 
-from tests.common import TOP, Case, browser_answers, count, package, read, row
+from tests.common import TOP, Case, browser_answers, count, in_turns, package, read, row
 
 package()
 import simplecss  # noqa: E402
@@ -97,7 +97,11 @@ SUPPORTED = (
     "selector(a)", "selector(a > b)", "selector(a,b)", "selector()", "selector(a", "sel\\65 ctor(b)",
     "SELECTOR(a::before)", "foo(x)", "foo()", 'foo("a\n")', "not(color:red)", "and(x)", "url(a)",
     "selector(])", "selector( /**/ a /**/ )", "selector(a b", "selector(a {)", "selector(:not(a))",
-    "selector(a:nth-child(2n))", "selector(a::foo())", "selector(1)",
+    "selector(a:nth-child(2n))", "selector(a::foo())", "selector(1)", "font-tech(variations)", "font-tech(color-svg)",
+    "FONT-tech( c\\6f lor-cbdt/**/)", "font-tech(palettes palettes)", "font-tech()", "font-tech(woff)", 'font-tech("palettes")',
+    "font-format(woff2)", "font-format( Woff )", "font-format(svg)", "font-format(woff,woff2)", "at-rule(@media)",
+    "at-rule( @l\\61 yer )", "at-rule(layer)", "at-rule(@ page)", "at-rule(@page a)", "at-rule(@foo)",
+    "at-rule(@swash/**/)", "at-rule(@@page)", "at-rule()", "at-rule(@page", "at-rule(@top-right-corner)", "at-rule(@-webkit-keyframes)",
 )
 # The devices of the browser, by what it is told.
 BROWSERS = (
@@ -405,7 +409,7 @@ class Conditions(Case):
             holds = says(simplecss.Condition(name, text), on) == HOLDS
             yield row(f"{json.dumps(text)} on {on}", holds, answer)
 
-        self.against(browser, texts, question)
+        self.against(in_turns(browser), texts, question)
 
     def test_table(self) -> None:
         """What Chromium says of the media queries of web-platform-tests, on each of its devices."""

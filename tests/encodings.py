@@ -18,7 +18,7 @@ from tests.common import TOP, Case, browser_answers, count, package, read
 
 package()
 from simplecss import Tree  # noqa: E402
-from simplecss._encoding import found_in  # noqa: E402
+from simplecss._encoding import page_encoding  # noqa: E402
 
 LABELS = (
     "utf-8 ibm866 iso-8859-2 iso-8859-3 iso-8859-4 iso-8859-5 iso-8859-6 iso-8859-7 iso-8859-8 iso-8859-10"
@@ -127,6 +127,7 @@ HEADS = [
     b"<!-- <meta charset=koi8-r>",
     b"<!--><meta charset=koi8-r>",
     b"<!---><meta charset=koi8-r>",
+    b"<!-- --!><meta charset=koi8-r>-->",
     b"<!doctype html><meta charset=koi8-r>",
     b"<!x <meta charset=koi8-r>",
     b"<?x <meta charset=koi8-r>?><meta charset=sjis>",
@@ -183,12 +184,10 @@ PARTS = (
     b"=",
     b"a=b ",
 )
-# Where the browser differs from the standard, with what each finds: of attributes of one name the last counts, and `--!>`
-# ends a comment.
+# Where the browser differs from the standard, with what each finds: of attributes of one name the last counts.
 DIFFERENT = (
     (b"<meta charset=koi8-r charset=sjis>", "koi8-r", "shift_jis"),
     (b"<meta charset=none charset=sjis>", OWN, "shift_jis"),
-    (b"<!-- --!><meta charset=koi8-r>-->", OWN, "koi8-r"),
 )
 # Of attributes that name an encoding two of one name, perhaps in one tag.
 AGAIN = re.compile(rb"<meta[^>]*(charset|http-equiv|content)\b[^>]*\1", re.IGNORECASE)
@@ -232,7 +231,7 @@ class Encodings(Case):
         if answers is None:
             self.skipTest("there is no browser")
         for head, answer in zip(heads, answers):
-            found = found_in(head)
+            found = page_encoding(head)
             name = OWN if found.source == "default" else found.name.lower()
             with self.subTest(head=head):
                 self.assertEqual((name, answer), differs.get(head, (answer, answer)))
@@ -249,7 +248,7 @@ class Encodings(Case):
         if answers is None:
             self.skipTest("there is no browser")
         for label, answer in zip(labels, answers):
-            found = found_in(b"", f" {label.upper()}\n")
+            found = page_encoding(b"", f" {label.upper()}\n")
             name = found.name.lower() if found.source == "label" else None
             with self.subTest(label=label):
                 self.assertEqual(None if name == "replacement" else name, answer)

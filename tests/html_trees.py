@@ -1,18 +1,21 @@
-"""Judges the trees that `simplecss_html` reads by html5lib-tests, whole: with comments, document types, the
-content of templates, and fragments in every context.
+"""Judges the trees that `simplecss_html` reads by html5lib-tests and by a browser, whole: with comments, document
+types, the content of templates, and fragments in every context.
 
 The tests are in Debian's source of html5lib (see tests/trees.py). Those of `DIFFERENCES` do not hold, for the
-reasons that it names; one that holds again fails.
+reasons that it names; one that holds again fails. The browser is Debian's `chromium`. It reads random pages and
+fragments of rare pieces, which are the same in each run of a seed, which `SEED` in the environment sets; `COUNT` says
+how many there are.
 """
 from __future__ import annotations
 
 import glob
 import itertools
 import os
+import random
 import re
-from typing import Dict, Iterator, List, NamedTuple, Sequence, Tuple
+from typing import Dict, Iterator, List, NamedTuple, Optional, Sequence, Tuple
 
-from tests.common import TOP, Case, package
+from tests.common import LEFT_OUT, TOP, Case, browser_answers, count, package
 
 package()
 from simplecss import _library as library  # noqa: E402
@@ -34,6 +37,91 @@ DIFFERENCES: Dict[str, Sequence[str]] = {
         "<option><XH<optgroup>",
     ),
 }
+
+# What random pages are made of: start tags that the standard has rules for, others, end tags, texts and comments.
+# fmt: off
+NAMES = (
+    "html", "head", "body", "title", "style", "script", "template", "noscript", "base", "meta", "frameset", "frame", "noframes", "p",
+    "div", "h1", "h2", "ul", "li", "dl", "dt", "dd", "pre", "listing", "textarea", "form", "input", "button", "select", "option",
+    "optgroup", "hr", "table", "caption", "colgroup", "col", "tbody", "thead", "tr", "td", "th", "a", "b", "i", "font", "nobr", "em",
+    "code", "applet", "marquee", "object", "svg", "math", "mi", "mtext", "mglyph", "malignmark", "annotation-xml", "foreignObject",
+    "desc", "image", "img", "br", "xmp", "iframe", "plaintext", "ruby", "rb", "rt", "rtc", "rp", "main", "details", "summary", "menu",
+    "dialog", "search", "keygen", "area", "x-y", "center", "blockquote", "span", "isindex", "wbr", "embed", "param", "source", "track",
+)
+# These are rarely meant, and hide what follows.
+HIDING = ("plaintext", "frameset", "script", "xmp", "iframe", "textarea", "style", "noframes", "title")
+WORDS = (
+    "", "", "", "", " a=b", " a=b c='d'", " A=&lt;", " class=x class=y", "/", " /", " type=hidden", " TYPE='HIDDEN '", " color=red",
+    " size=1", " face", " xlink:href=u", " xml:lang=en", " definitionurl=v", " viewbox=1", " encoding=text/html",
+    " encoding='application/xhtml+xml'", " id=1", " selected", " xmlns=x", " xmlns:xlink=y",
+)
+TEXTS = (
+    "x", "x", "y", " ", "\n", "\t", "\r\n", "&amp;", "&lt;b>", "&notin;", "&#128;", "<!-- c -->", "<!-->", "<!x>", "<?y>", "</>", "</ z>",
+    "<![CDATA[w]]>", "<!DOCTYPE html>", "<!doctype x>", "<", "&", "\f", "é", "<br/>", "</br>", "</p>", "<a href=1>", "<b>", "<i>",
+    "<table>", "<tr>", "<td>", "<p>", "<font color=red>", "<svg>", "<math>", "<mi>", "<template>", "<select>", "<option>",
+)
+FRONTS = (
+    *("<!DOCTYPE html>",) * 3, "", "", "<!DOCTYPE html SYSTEM 'about:legacy-compat'>", "<!-- f -->",
+    "<!DOCTYPE HTML PUBLIC '-//W3C//DTD HTML 4.01 Transitional//EN' 'http://www.w3.org/TR/html4/loose.dtd'>",
+    "<!DOCTYPE html PUBLIC '-//W3C//DTD HTML 3.2 Final//EN'>",
+)
+# Whose content a fragment is: a namespace, and a start tag.
+CONTEXTS = (
+    *(f"html {name}" for name in NAMES if name not in ("plaintext", "html")), "html html", "html foreignobject",
+    "svg svg", "svg g", "svg foreignObject", "svg desc", "svg title", "svg a", "svg script", "math math", "math mi", "math mtext",
+    "math annotation-xml", "math mglyph",
+)
+# fmt: on
+# What the browser has of pages: lines as the tests of html5lib have them, each with its depth.
+SCRIPT = """<!DOCTYPE html><meta charset=utf-8><script id=input type="application/json">%s</script><body><script>
+const HTML = "http://www.w3.org/1999/xhtml", SVG = "http://www.w3.org/2000/svg", MATH = "http://www.w3.org/1998/Math/MathML";
+const spaces = {html: HTML, svg: SVG, math: MATH}, names = {[HTML]: "", [SVG]: "svg ", [MATH]: "math "};
+const ofAttributes = {"http://www.w3.org/1999/xlink": "xlink ", "http://www.w3.org/XML/1998/namespace": "xml "};
+function keyOf(each) {
+    if (each.namespaceURI === "http://www.w3.org/2000/xmlns/") return each.name === "xmlns" ? "xmlns" : "xmlns " + each.localName;
+    return each.namespaceURI === null ? each.name : ofAttributes[each.namespaceURI] + each.localName;
+}
+function linesOf(top) {
+    const found = [], waiting = [...top.childNodes].reverse().map(node => [0, node]);
+    while (waiting.length > 0) {
+        const [depth, node] = waiting.pop();
+        if (node.nodeType === 3) found.push([depth, `"${node.data}"`]);
+        if (node.nodeType === 8) found.push([depth, `<!-- ${node.data} -->`]);
+        // An instruction is a comment for html5lib and here.
+        if (node.nodeType === 7) found.push([depth, `<!-- ?${node.target}${node.data && " "}${node.data} -->`]);
+        if (node.nodeType === 10) {
+            const ids = node.publicId || node.systemId ? ` "${node.publicId}" "${node.systemId}"` : "";
+            found.push([depth, `<!DOCTYPE ${node.name}${ids}>`]);
+        }
+        if (node.nodeType !== 1) continue;
+        found.push([depth, `<${names[node.namespaceURI]}${node.localName}>`]);
+        const own = [...node.attributes].map(each => [keyOf(each), each.value]).sort((a, b) => a[0] < b[0] ? -1 : a[0] > b[0] ? 1 : 0);
+        for (const [key, value] of own) found.push([depth + 1, `${key}="${value}"`]);
+        const isTemplate = node instanceof HTMLTemplateElement;
+        if (isTemplate) found.push([depth + 1, "content"]);
+        const inner = (isTemplate ? node.content : node).childNodes;
+        for (const child of [...inner].reverse()) waiting.push([depth + 1 + isTemplate, child]);
+    }
+    return found;
+}
+const page = document.implementation.createHTMLDocument("");
+const answers = JSON.parse(document.getElementById("input").textContent).map(([context, text]) => {
+    if (context === "") return linesOf(new DOMParser().parseFromString(text, "text/html"));
+    const [space, name] = context.split(" "), top = page.createElementNS(spaces[space], name);
+    top.innerHTML = text;
+    return linesOf(top instanceof HTMLTemplateElement ? top.content : top);
+});
+document.documentElement.textContent = "ANS" + "WER" + JSON.stringify(answers) + "END";
+</script>"""
+# What Chromium reads otherwise than HTML's sections 13.2.4.2, 13.2.6.4.9, 13.2.6.4.13 and 13.2.6.4.18 say: a `search` is special; in
+# a template a `form` between the rows of a table is none, white space there opens no element again, and after what may be
+# in a head there may be a part of a table. And what it reads as a node of its own: an instruction, which here is a comment.
+OTHERWISE = re.compile(
+    r"<search|<noscript.*<\?|<template.*(?:<base|<title|<noframes|<t(?:able|body|head|r)\b.*(?:<form|\s.*</?t))",
+    re.I | re.S,
+)
+# How many pages the browser reads at once.
+AT_ONCE = 1000
 
 
 class Row(NamedTuple):
@@ -184,7 +272,79 @@ def difference(test: trees.Test) -> str:
     return next((f"{ours}, and not {theirs}" for ours, theirs in pairs if ours != theirs), "")
 
 
+def piece(rng: random.Random) -> str:
+    """Returns a random piece of a page."""
+    kind = rng.randrange(8)
+    name = rng.choice(NAMES)
+    if name in HIDING and rng.randrange(6):
+        name = "b"
+    if kind < 4:
+        return f"<{rng.choice((name, name, name.upper()))}{rng.choice(WORDS)}>"
+    if kind < 6:
+        return f"</{name}>"
+    return rng.choice(TEXTS)
+
+
+def random_page(rng: random.Random) -> str:
+    """Returns a random page, or one of the shapes of which elements are opened again."""
+    pieces = [piece(rng) for _ in range(rng.randint(1, 14))]
+    if rng.randrange(4) == 0:
+        again = rng.choice(
+            ("<b>", "<font>", "<i a=b>", "<a href=x>", "<b class=x>", "<nobr>", "<html c=d>")
+        )
+        pieces += [
+            again + rng.choice(("", "", "<p>", "x", "</p>")) for _ in range(rng.randint(2, 9))
+        ]
+        pieces += [piece(rng) for _ in range(rng.randint(0, 4))]
+    return "".join(pieces)
+
+
+def random_texts(number: int) -> List[Tuple[str, str]]:
+    """Returns random pages, and fragments with their contexts."""
+    rng = random.Random(int(os.environ.get("SEED", "1")))
+    pages = [("", rng.choice(FRONTS) + random_page(rng)) for _ in range(number)]
+    return pages + [(rng.choice(CONTEXTS), random_page(rng)) for _ in range(number // 2)]
+
+
+def browser_lines(texts: Sequence[Tuple[str, str]]) -> Optional[List[List[Tuple[int, str]]]]:
+    """Returns the lines that the browser has of texts, each with its context, or none without a browser."""
+    found: List[List[Tuple[int, str]]] = []
+    for start in range(0, len(texts), AT_ONCE):
+        answers = browser_answers(SCRIPT, texts[start : start + AT_ONCE])
+        if answers is None:
+            return None
+        found += [[(depth, text) for depth, text in each] for each in answers]
+    return found
+
+
+def browser_difference(context: str, text: str, theirs: Sequence[Tuple[int, str]]) -> Optional[str]:
+    """Returns how the tree of a text differs from that of the browser, if it does. What browsers read in different
+    ways is left out."""
+    space, _, name = context.partition(" ")
+    within = f"{space} {name}" if space not in ("", "html") else name
+    numbers, _ = library.page_of(
+        text.encode(), SPACES.index(space) if space else 0, name.encode(), 0
+    )
+    if numbers[6 + 2 * numbers[0]] or OTHERWISE.search(text):
+        return LEFT_OUT
+    ours = joined(lines_of(trees.Test("", text, within, False, [])))
+    # An identifier that is empty is like one that is missing in a DOM.
+    ours = [(depth, line.replace(' "" "">', ">")) for depth, line in ours]
+    for one, other in itertools.zip_longest(ours, joined(iter(theirs))):
+        if one != other:
+            return f"{context!r} {text!r}: {one}, and in the browser {other}"
+    return None
+
+
 class HtmlTrees(Case):
+    def test_browser(self) -> None:
+        """Random pages and fragments of rare pieces are what a browser makes of them."""
+        self.against(
+            browser_lines,
+            random_texts(count(1000)),
+            lambda asked, theirs: [browser_difference(*asked, theirs)],
+        )
+
     def test_html5lib(self) -> None:
         """The trees that html5lib-tests expect, whole."""
         folder = os.path.join(TOP, "out", "judges")

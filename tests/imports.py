@@ -14,7 +14,7 @@ import random
 import urllib.parse
 from typing import Any, Callable, Dict, Iterator, List, NamedTuple, Optional, Tuple
 
-from tests.common import Case, browser_answers, count, package, row, rows
+from tests.common import Case, browser_answers, count, in_turns, package, row, rows
 from tests.syntax import Fields, fields_of
 
 package()
@@ -338,4 +338,4 @@ class Winning(Case):
                     found.append([mine.get(name, value) for name, value in INITIAL.items()])
             return rows(text, found, due)
 
-        self.against(browser, pages, question)
+        self.against(in_turns(browser), pages, question)

@@ -86,6 +86,8 @@ def apt_get(words: Sequence[str], lists: str, folder: str) -> bool:
         "Dir::Etc::sourcelist": os.path.join(lists, "archive.sources"),
         "Dir::Etc::sourceparts": os.devnull,
         "Dir::State::lists": os.path.join(lists, "lists"),
+        # What the system has may be newer than what this archive has.
+        "Dir::State::status": os.devnull,
         "Dir::Cache": os.path.join(lists, "cache"),
         "Dir::Cache::pkgcache": "packages.bin",
         "Dir::Cache::srcpkgcache": "sources.bin",

@@ -10,12 +10,13 @@ from __future__ import annotations
 
 import random
 import re
-from typing import List, Tuple
+from typing import Any, List, Optional, Tuple
 
 from tests.common import TOP, Case, browser_answers, count, package, read
 
 package()
 import simplecss  # noqa: E402
+from simplecss import _taken  # noqa: E402
 
 PAGE = """
 <!DOCTYPE html><meta charset=utf-8><body><script id=input type="application/json">%s</script>
@@ -32,17 +33,19 @@ OTHERS = (
     "-1S", "1fr", "2dppx", "96dpi", "1hz", "3foo", "#fff", "#ABCD", "#12345", "#a1b2c3", "red",
     "CurrentColor", "transparent", "canvas", "'a'", '"b c"', "url(x)", "foo", "inherit", "INITIAL",
     "unset", "revert", "revert-layer", "-webkit-auto", "x\\\\9", "calc(1px + 2%)", "var(--a)",
-    "/**/auto/**/",
+    "/**/auto/**/", "-moz-box", "-webkit-sticky", "-webkit-box", "-ms-grid", "\\\\9", "a\\\\75to", "--x",
+    "-moz-calc(1px)", "-webkit-calc(1px)", "-o-x(var(--a))", "if(else: 1)", "attr(x)", "url( y )",
 )
 # fmt: on
 SEPARATORS = (" ", " ", " ", "  ", ",", " / ", "/**/ ")
-# At least this share of the answers is known.
-KNOWN = 0.4
+GAPS = re.compile(rb"/\*.*?\*/|\s")
+# At least this share of the answers is known, and of those of the browser that refuse a value this one.
+KNOWN, REFUSED = 0.4, 0.7
 
 
 def rows() -> List[List[str]]:
     """The fields of the rows of the table."""
-    text = read(f"{TOP}/crates/css_lint/src/value_data.rt")
+    text = read(f"{TOP}/crates/css_values/src/value_data.rt")
     table = text[text.index("pub const VALUES") :].split('"')[1]
     plain = re.sub(r"\\\n\s*", "", table)
     return [line.split("|") for line in plain.split("\\n")[:-1]]
@@ -75,23 +78,54 @@ class Source:
         return self.random.choice(row[0].split()), "".join(parts)
 
 
+def is_refused(name: str, value: str) -> bool:
+    """Whether a declaration is left out of what wins, in a sheet and in a style attribute."""
+    text = f"{name}: {value}".encode()
+    sheet, style = _taken.taken(b"a { " + text + b" }"), _taken.taken_of_style(text)
+    is_kept = style == text
+    assert is_kept or not style.strip(), (name, value)
+    # In a block, comments after a declaration are none of it.
+    assert (sheet[4:-2] == text) if is_kept else not GAPS.sub(b"", sheet[4:-2]), (name, value)
+    return not is_kept
+
+
 class KnownValues(Case):
-    def test_random_values(self) -> None:
+    pairs: List[Tuple[str, str]] = []
+    answers: Optional[List[Any]] = None
+
+    @classmethod
+    def setUpClass(cls) -> None:
         source = Source()
-        pairs = [source.pair() for _ in range(count(20_000))]
-        answers = browser_answers(PAGE, pairs)
-        if answers is None:
+        cls.pairs = [source.pair() for _ in range(count(20_000))]
+        cls.answers = browser_answers(PAGE, cls.pairs)
+
+    def setUp(self) -> None:
+        if self.answers is None:
             self.skipTest("values: chromium is missing")
-        found = [simplecss.takes_value(*pair) for pair in pairs]
+
+    def test_random_values(self) -> None:
+        found = [simplecss.takes_value(*pair) for pair in self.pairs]
         known = [
             (pair, ours, bool(theirs))
-            for pair, ours, theirs in zip(pairs, found, answers)
+            for pair, ours, theirs in zip(self.pairs, found, self.answers or ())
             if ours is not None
         ]
-        self.assertGreater(len(known), KNOWN * len(pairs))
+        self.assertGreater(len(known), KNOWN * len(self.pairs))
         failures = [
             f"{': '.join(pair)}: {ours}, in the browser {theirs}"
             for pair, ours, theirs in known
             if ours != theirs
         ]
         self.sweep(len(known), failures)
+
+    def test_refused_values(self) -> None:
+        """The browser takes nothing that wins nowhere, and most that it does not take does."""
+        found = [is_refused(*pair) for pair in self.pairs]
+        refused = [bool(theirs) for ours, theirs in zip(found, self.answers or ()) if ours]
+        self.assertGreater(len(refused), REFUSED * list(self.answers or ()).count(0))
+        failures = [
+            f"{': '.join(pair)}: refused, in the browser taken"
+            for pair, ours, theirs in zip(self.pairs, found, self.answers or ())
+            if ours and theirs
+        ]
+        self.sweep(len(refused), failures)

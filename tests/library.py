@@ -10,6 +10,7 @@ from __future__ import annotations
 
 import functools
 import glob
+import itertools
 import os
 import re
 import shutil
@@ -34,10 +35,11 @@ from tests.common import (
     write,
 )
 
-EXPECTED = "1:\n2: 1 2\n3:\n"
+# What the examples in C print.
+EXAMPLES = (("page.c", "1:\n2: 1 2\n3:\n"), ("unused.c", "p\nol li\n& b\n"))
 # How many calls tests/library_refused.c makes, and which of them allocate nothing.
-CALLS = 55
-WITHOUT_MEMORY = (10, 19, 37)
+CALLS = 61
+WITHOUT_MEMORY = (10, 19)
 NO_HEADERS = "the C example was not compiled: the system has no C headers or start files"
 
 
@@ -117,13 +119,14 @@ class InC(Case):
         return program
 
     def test_example(self) -> None:
-        """The C example prints what it should, linked to either library."""
-        source = os.path.join(TOP, "examples", "c", "page.c")
-        strict = ["-std=c99", "-Wall", "-Wextra", "-Wpedantic", "-Werror", source]
+        """Each C example prints what it should, linked to either library."""
         archive = [os.path.join(self.lib, "libsimplecss.a")]
-        for link in (archive, ["-L" + self.lib, "-lsimplecss", "-Wl,-rpath," + self.lib]):
-            with self.subTest(link=link):
-                self.assertEqual(answer([self.compile(*strict, *link)]), (0, EXPECTED, ""))
+        linked = (archive, ["-L" + self.lib, "-lsimplecss", "-Wl,-rpath," + self.lib])
+        for (name, expected), link in itertools.product(EXAMPLES, linked):
+            source = os.path.join(TOP, "examples", "c", name)
+            strict = ["-std=c99", "-Wall", "-Wextra", "-Wpedantic", "-Werror", source]
+            with self.subTest(name=name, link=link):
+                self.assertEqual(answer([self.compile(*strict, *link)]), (0, expected, ""))
 
     def test_header_in_cplusplus(self) -> None:
         header = write(os.path.join(self.folder, "header.cc"), "#include <simplecss.h>\n")
@@ -160,8 +163,14 @@ class InC(Case):
     def test_kept_lists(self) -> None:
         check_kept(self, self.clang, os.path.join(self.lib, "libsimplecss.a"), "kept_lists.c")
 
+    def test_kept_sheets(self) -> None:
+        check_kept(self, self.clang, os.path.join(self.lib, "libsimplecss.a"), "kept_sheets.c")
+
     def test_kept_pages(self) -> None:
         check_kept(self, self.clang, os.path.join(self.lib, "libsimplecss.a"), "kept_pages.c")
+
+    def test_kept_queries(self) -> None:
+        check_kept(self, self.clang, os.path.join(self.lib, "libsimplecss.a"), "kept_queries.c")
 
     def test_objects(self) -> None:
         """The objects of simplecss.hpp, by the compilers of the system."""

@@ -65,8 +65,20 @@ class KeptList(ctypes.Structure):
     _fields_ = [("at", ctypes.c_void_p)]
 
 
+class KeptSheet(ctypes.Structure):
+    """The handle of a style sheet that the library keeps."""
+
+    _fields_ = [("at", ctypes.c_void_p)]
+
+
 class KeptPage(ctypes.Structure):
     """The handle of a page that the library keeps."""
+
+    _fields_ = [("at", ctypes.c_void_p)]
+
+
+class KeptQuery(ctypes.Structure):
+    """The handle of a query that the library keeps."""
 
     _fields_ = [("at", ctypes.c_void_p)]
 
@@ -104,13 +116,14 @@ class AskedArrays(ctypes.Structure):
 
 
 class PolicyArrays(ctypes.Structure):
-    """A scope and the names of a policy, as texts with their length, and where each ends with how many there
-    are; how many names there are of each kind but the last one; whether declarations may be important, and rules
-    for the scope itself; and the most bytes of a text."""
+    """A scope, a prefix and the names of a policy, as texts with their length, and where each ends with how many
+    there are; how many names there are of each kind but the last one; whether declarations may be important, and
+    rules for the scope itself; and the most bytes of a text."""
 
     _fields_ = [
         *texts_fields("texts", "ends"),
         *((name, SIZE) for name in ("properties", "functions", "strings", "pseudos")),
+        *((name, SIZE) for name in ("urls", "named", "words", "limits")),
         *((name, SIZE) for name in ("important", "itself", "longest")),
     ]
 
@@ -216,20 +229,42 @@ def asked_of(*properties: Sequence[bytes]) -> AskedArrays:
 
 
 # What a call takes by a pointer.
-STRUCTURES = (Device, KeptList, KeptPage, SheetArrays, OwnArrays, AskedArrays, PolicyArrays)
+STRUCTURES = (
+    *(
+        Device,
+        KeptList,
+        KeptSheet,
+        KeptPage,
+        KeptQuery,
+        SheetArrays,
+        OwnArrays,
+        AskedArrays,
+        PolicyArrays,
+    ),
+)
 
 
 def policy_of(
     scope: bytes,
     *lists: Sequence[bytes],
+    prefix: bytes = b"",
+    urls: Sequence[Tuple[bytes, bytes]] = (),
+    named: Sequence[bytes] = (),
+    words: Sequence[bytes] = (),
+    limits: Sequence[Tuple[bytes, bytes]] = (),
     important: int = 1,
     itself: int = 0,
     longest: int = 1 << 20,
 ) -> PolicyArrays:
-    """The structure of a policy, of five lists of names."""
-    names = buffer_of([scope, *itertools.chain.from_iterable(lists)])
-    numbers = important, itself, longest
-    return PolicyArrays(*fields_of(names), *map(len, lists[:4]), *numbers)
+    """The structure of a policy, of five lists of names, and what is changed in values: urls with their answers,
+    properties whose words are names, words that are none, and limits of properties."""
+    *others, media = lists
+    asked, answers = [one for one, _ in urls], [answer for _, answer in urls]
+    limited, bounds = [one for one, _ in limits], [bound for _, bound in limits]
+    names = itertools.chain(*others, asked, answers, named, words, limited, bounds, media)
+    texts = [scope, prefix, *names]
+    counts = [len(each) for each in (*others, asked, named, words, limited)]
+    return PolicyArrays(*fields_of(buffer_of(texts)), *counts, important, itself, longest)
 
 
 # What a policy of the library has of names, in the order of its arrays.
@@ -251,7 +286,8 @@ def lines_of(library: ctypes.CDLL, policy: str) -> Dict[str, List[bytes]]:
 def listed_policy(library: ctypes.CDLL, scope: bytes, policy: str) -> PolicyArrays:
     """A policy of the library, for a scope."""
     lines = lines_of(library, policy)
-    return policy_of(scope, *(lines[each] for each in LISTS))
+    limits = list(zip(lines["limited"], lines["limits"]))
+    return policy_of(scope, *(lines[each] for each in LISTS), limits=limits)
 
 
 def words_of(arguments: Sequence[Any]) -> List[Any]:
@@ -273,14 +309,43 @@ def words_of(arguments: Sequence[Any]) -> List[Any]:
     return words
 
 
+def port_arguments(asked: int, text: bytes, *more: Any) -> Tuple[Any, ...]:
+    """The arguments of the call of the port, by those of what is asked: of the ends and the limit of a sheet and of a
+    tree those that it has."""
+    sheet = [each for each in more if not isinstance(each, tuple)]
+    tree = [each for each in more if isinstance(each, tuple)]
+    return (text, *(sheet or (sizes([]), 0)), asked, *(tree or (tree_of(),)))
+
+
 @contextlib.contextmanager
 def given(
     library: ctypes.CDLL, name: str, arguments: Sequence[Any], fault: TreeFault
 ) -> Iterator[Tuple[int, List[Any]]]:
     """The status of what a call needs first, and what it is given. A question to a list is given the
-    handle of one that is made of the arguments, and let go after it, and one to a page that of one that is made
-    of the first two; of others nothing is needed.
+    handle of one that is made of the arguments, and let go after it, one to a sheet that of one that is made of the
+    first, one to a page that of one that is made of the first two, and one to a query that of one that is made of all but properties; of others nothing is needed.
     """
+    if name in ASKED or name == "simplecss_query_text":
+        query = KeptQuery()
+        sheets, grammar, limit, tree, *more = arguments
+        own, asked = [*more, NO_OWN][0], [*more[1:], asked_of()][0]
+        place = ctypes.byref(query)
+        words = words_of((tree, grammar, sheets, limit, own))
+        made = library.simplecss_query_new(*words, place, ctypes.byref(fault))
+        question = (ASKED[name], asked, 0, NO_LIMIT) if name in ASKED else ()
+        yield made, words_of((query, *question))
+        library.simplecss_query_free(place)
+        return
+    if name in SHEET_ASKED:
+        sheet = KeptSheet()
+        text, *more = arguments
+        made = library.simplecss_sheet_new(*words_of((text,)), ctypes.byref(sheet))
+        yield made, words_of((sheet, *(more or (SHEET_ASKED[name],))))
+        library.simplecss_sheet_free(ctypes.byref(sheet))
+        return
+    if name in PORT_ASKED:
+        yield DONE, words_of(port_arguments(PORT_ASKED[name], *arguments))
+        return
     if name.startswith("simplecss_page_"):
         page = KeptPage()
         place = ctypes.byref(page)
@@ -313,13 +378,22 @@ def filled(
     """The status, the length, and the fault of a call that writes into a buffer, whose last four items it is
     not told of."""
     length, fault = SIZE(77), TreeFault(88, 99)
-    limit = (SIZE(most),) if name in LIMITED else ()
-    tail = (ctypes.byref(fault),) if name in (*WITH_TREE, "simplecss_html_edit") else ()
+    limit = (SIZE(most),) if name in (*LIMITED, *PORT_ASKED, *ASKED) else ()
+    tail = (ctypes.byref(fault),) if name in (*WITH_TREE, *PORT_ASKED, *WITH_EDITS) else ()
     with given(library, name, arguments, fault) as (made, words):
-        status = getattr(library, name)(
+        status = getattr(library, called(name))(
             *words, *limit, out, SIZE(len(out) - 4), ctypes.byref(length), *tail
         )
     return answered_status(made, status), length.value, fault
+
+
+def called(name: str) -> str:
+    """The call of a question that has a number."""
+    if name in PORT_ASKED:
+        return "simplecss_port"
+    if name in SHEET_ASKED:
+        return "simplecss_sheet_numbers" if name in IN_NUMBERS else "simplecss_sheet_text"
+    return "simplecss_query_numbers" if name in ASKED else name
 
 
 def answered_status(made: int, status: int) -> int:
@@ -439,23 +513,42 @@ _REGISTERED = (
 )
 REGISTERED = buffer_of(_REGISTERED)
 SUPPORTS = ((b"(DISPLAY: grid)", b"true"), (b"(width: 1px)", b"false"))
-# The calls on trees, and those with a limit on the answer.
-WITH_TREE = (
-    "simplecss_port_match",
-    "simplecss_match_selectors",
-    "simplecss_select",
-    "simplecss_port_style",
-    "simplecss_port_styles",
-    "simplecss_winners",
-    "simplecss_winners_named",
-    "simplecss_matches",
-    "simplecss_refusal",
-)
+# The calls that edit, those on trees, and those with a limit on the answer.
+WITH_EDITS = ("simplecss_html_edit", "simplecss_edit")
+WITH_TREE = ("simplecss_match_selectors", "simplecss_refusal")
+# What is asked by the grammar of the port, and the number of it.
+PORT_ASKED = {
+    "simplecss_port_sheet": 0,
+    "simplecss_port_rules": 1,
+    "simplecss_port_skipped": 2,
+    "simplecss_port_match": 3,
+    "simplecss_port_styles": 4,
+    "simplecss_port_selected": 5,
+    "simplecss_port_none": 6,
+}
+# What a style sheet is asked, in numbers and as a text, and the number of it, which is given to print one.
+IN_NUMBERS = ("simplecss_sheet_statements", "simplecss_sheet_contents")
+SHEET_ASKED = {
+    "simplecss_sheet_statements": 0,
+    "simplecss_sheet_contents": 1,
+    "simplecss_sheet_printed": 0,
+    "simplecss_sheet_imports": 2,
+}
+# What a query is asked, and the number of it.
+ASKED = {
+    "simplecss_query_winners": 0,
+    "simplecss_query_winners_named": 1,
+    "simplecss_query_matches": 2,
+    "simplecss_query_explained": 3,
+    "simplecss_query_rules": 4,
+}
 LIMITED = (
-    *WITH_TREE[:-1],
+    "simplecss_match_selectors",
+    *("simplecss_port_match", "simplecss_port_styles", "simplecss_port_selected"),
+    *set(ASKED).difference(("simplecss_query_rules",)),
     "simplecss_page_select",
-    "simplecss_read",
-    "simplecss_rule_texts",
+    *IN_NUMBERS,
+    "simplecss_query_text",
     "simplecss_values",
 )
 RED, BLUE = b"5 3 0\ncolorred\n", b"5 4 1\ncolorblue\n"
@@ -579,6 +672,16 @@ LINTED = (
     (b"a{top:0 left:0}", 0, b"semicolon missing\t2\t7\t\t7\t7\t;\n"),
     (b"color:red\nwidth:1px 2px\n\ntop:x()", 8, b"valid\ninvalid\nunknown\nunknown\n"),
 )
+# Texts, whether each is an attribute, and where its declarations are whose values no browser takes.
+REFUSED_VALUES = (
+    (b"a{top:x;top:1px;TOP : y}", 0, ((2, 7), (16, 23))),
+    (b"a{b{top:x}@media c{top:'d'}&{}float:e}", 0, ((4, 9), (19, 26), (30, 37))),
+    (b"@media a{b{top:c!important}}@font-face{top:x}", 0, ((11, 26),)),
+    (b"a{top:calc(b);--top:x;unknown:y}", 0, ()),
+    (b"a{top:x}", 1, ()),
+    (b"top:x;left:1px;left:y", 1, ((0, 5), (15, 21))),
+    (b"top:x;left:1px;left:y", 2, ((0, 5), (15, 21))),
+)
 PRINTED = (
     (b"/**/ @media ( a : b ) { a > b , c { d : e ; } }", 0, b"@media(a :b){a>b,c{d:e}}"),
     (b"a{b:c!important;--d:  e  f", 1, b"a {\n  b: c !important;\n  --d: e  f;\n}\n"),
@@ -588,11 +691,39 @@ PRINTED = (
 )
 # The policy of tests/release/compare.c.
 COMPARED = policy_of(
-    b".x", (b"color", b"x"), (b"rgb",), (b"color",), (b"hover",), (b"print",), longest=NO_LIMIT
+    b".x",
+    (b"color", b"x"),
+    (b"rgb",),
+    (b"color",),
+    (b"hover",),
+    (b"print",),
+    urls=((b"a", b"b"),),
+    longest=NO_LIMIT,
 )
 # A policy, what is asked of a text, and the answer.
 POLICY = policy_of(b".m", (b"color", b"font"), (b"rgb",), (b"font",), (b"hover",), (b"print",))
 ITSELF = policy_of(b".m", (b"color",), (), (), (), (), itself=1)
+CHANGED = policy_of(
+    b".m",
+    (b"color", b"font"),
+    (b"rgb", b"url", b"image-set"),
+    (b"font",),
+    (),
+    (),
+    prefix=b"q-",
+    urls=((b"a", b"b"), (b"x", b"c\n")),
+    named=(b"color",),
+    words=(b"none",),
+)
+BOUNDED = policy_of(
+    b".m",
+    (b"margin", b"position", b"x", b"color"),
+    (b"rgb", b"calc"),
+    (),
+    (),
+    (),
+    limits=((b"margin", b"-50 96.5px Auto"), (b"position", b"static,relative"), (b"x", b"1,2")),
+)
 NO_IMPORTANT = policy_of(b".m", (b"color",), (), (), (), (), important=0, longest=30)
 CLEANED = (
     (POLICY, 0, b"p,a:hover{COLOR:rgb(0 0 0)}", b".m p, .m a:hover {COLOR: rgb(0 0 0);}\n"),
@@ -621,7 +752,59 @@ CLEANED = (
     (NO_IMPORTANT, 1, b"color:a;color:b!important", b"color: a;"),
     (NO_IMPORTANT, 1, b"color:" + b"a" * 25, b""),
     (POLICY, 2, b".m p{color:a}", b"true"),
+    (POLICY, 6, b"a{b:url(c\\29 )}@import 'x';d:src('e') f('g');h:'i'", b"c)\0e\0g\0"),
+    (CHANGED, 1, b"font:url( a )", b'font: url("b");'),
+    (CHANGED, 1, b"font:url('a') URL(\"\\61\") image-set(' a')", b""),
+    (CHANGED, 1, b"font:url('a') URL(\"\\61\")", b'font: url("b") URL("b");'),
+    (
+        CHANGED,
+        1,
+        b"font:url(b);font:url(c);font:url('c');font:url(a) rgb(0 0 0)",
+        b'font: url("b") rgb(0 0 0);',
+    ),
+    (
+        CHANGED,
+        0,
+        b"p{--x:url(a)!important;font:--x a}",
+        b'.m p {--q-x: url("b")!important; font: --q-x a;}\n',
+    ),
+    (CHANGED, 1, b"Color:a NONE b;color:'a';color:--a", b"Color: q-a NONE q-b; color: --q-a;"),
+    (CHANGED, 3, b'font:url("b");color:q-a none;--q-b:c', b"true"),
+    (CHANGED, 3, b'font:url("a")', b"false"),
+    (CHANGED, 3, b"font:url(b)", b"false"),
+    (CHANGED, 3, b"color:a", b"false"),
+    (CHANGED, 3, b"--b:c", b"false"),
+    (CHANGED, 3, b"font:--b", b"false"),
     (POLICY, 2, b"p{color:a}", b"false"),
+    (
+        BOUNDED,
+        1,
+        b"margin:1in -50% 96.5/.5em;Margin:AUTO,0",
+        b"margin: 1in -50% 96.5/.5em; Margin: AUTO,0;",
+    ),
+    (BOUNDED, 1, b"margin:1.006in;margin:-50.1px;margin:96.51;margin:2.6cm", b""),
+    (BOUNDED, 1, b"margin:73pt;margin:25.6mm;margin:.0000000000000001px", b""),
+    (
+        BOUNDED,
+        1,
+        b"margin:72.3pt 6pc 2.55cm 25.5mm 102Q",
+        b"margin: 72.3pt 6pc 2.55cm 25.5mm 102Q;",
+    ),
+    (
+        BOUNDED,
+        1,
+        b"margin:1e1px;margin:calc(0px);margin:none;margin:#fff;margin:1px+2px",
+        b"margin: 1px+2px;",
+    ),
+    (
+        BOUNDED,
+        1,
+        b"position:fixed;position:relative;position:1;x:-0;x:1;x:2.0;x:2.1;x:.9",
+        b"position: relative; x: 1; x: 2.0;",
+    ),
+    (BOUNDED, 1, b"color:rgb(300 0 0)", b"color: rgb(300 0 0);"),
+    (BOUNDED, 3, b"margin:1in", b"true"),
+    (BOUNDED, 3, b"margin:2in", b"false"),
     (POLICY, 2, b".m p{color:a", b"false"),
     (POLICY, 3, b"color:a; font : 'b'", b"true"),
     (POLICY, 3, b"color:'a'", b"false"),
@@ -642,6 +825,18 @@ DROPPED = (
         b"color:a/**/b;color:<;@a;b;color:(",
         ((0, 12, 4), (13, 20, 5), (21, 24, 9), (24, 25, 10), (26, 33, 7)),
     ),
+    (
+        CHANGED,
+        1,
+        b"font:url(b);font:url('c');--a:'b';font:url(x)",
+        ((0, 11, 2), (12, 25, 3), (26, 33, 3), (34, 45, 3)),
+    ),
+    (
+        BOUNDED,
+        1,
+        b"margin:2in;margin:calc(1px);margin:2in url(a)",
+        ((0, 10, 14), (11, 27, 14), (28, 45, 2)),
+    ),
     (NO_IMPORTANT, 1, b"color:b!important", ((0, 17, 6),)),
     (NO_IMPORTANT, 0, b"a" * 31, ((0, 31, 12),)),
     (POLICY, 0, b"&{color:a}p{x:y}", ((0, 10, 8), (12, 15, 0), (10, 16, 11))),
@@ -657,6 +852,12 @@ ENCODED = (
     (b"\0<\0?\0x", b"", b"declaration\tUTF-16BE"),
     (b"<!-- <meta charset=koi8-r>", b"", b"default\twindows-1252"),
     (b"", b"", b"default\twindows-1252"),
+    # A `meta` of the head after the first 1,024 bytes, which a browser reads the page again for; elsewhere none counts.
+    (b"<!--%b--><meta charset=koi8-r>" % (b" " * 1024), b"", b"meta\tKOI8-R"),
+    (b"<!--%b--><title>a<meta charset=koi8-r>" % (b" " * 1024), b"", b"default\twindows-1252"),
+    (b"<!--%b--><p><meta charset=koi8-r>" % (b" " * 1024), b"", b"default\twindows-1252"),
+    (b"<!--%b--><meta charset=x><meta charset=UTF-16>" % (b" " * 1024), b"", b"meta\tUTF-8"),
+    (b"<!--%b--><meta charset=koi8-r>" % (b" " * 1024), b"latin1", b"label\twindows-1252"),
 )
 
 
@@ -664,10 +865,27 @@ ENCODED = (
 Edit = Tuple[int, int, int, bytes, bytes]
 
 
-def edit_of(page: bytes, *edits: Edit) -> Tuple[bytes, Sizes, bytes, Sizes]:
+IS_XML = 4
+
+
+def edit_of(page: bytes, *edits: Edit, flags: int = 0) -> Tuple[bytes, int, Sizes, bytes, Sizes]:
     """The arguments of the call that edits a page."""
     numbers = [number for edit in edits for number in edit[:3]]
-    return page, sizes(numbers), *buffer_of([text for edit in edits for text in edit[3:]])
+    return page, flags, sizes(numbers), *buffer_of([text for edit in edits for text in edit[3:]])
+
+
+def inline_of(page: bytes, *sheets: bytes) -> Tuple[bytes, bytes, Sizes, int, int]:
+    """The arguments of the call that writes sheets into the attributes of a page."""
+    return page, *buffer_of(list(sheets)), 0, 10000
+
+
+SheetEdit = Tuple[int, int, int, bytes]
+
+
+def sheet_edit_of(text: bytes, *edits: SheetEdit) -> Tuple[bytes, Sizes, bytes, Sizes]:
+    """The arguments of the call that edits a sheet."""
+    numbers = [number for edit in edits for number in edit[:3]]
+    return text, sizes(numbers), *buffer_of([edit[3] for edit in edits])
 
 
 # Pages with edits: attributes that are set, put before their own, and removed; texts of `style` elements, and
@@ -681,12 +899,66 @@ EDITED = (
     (b"<style>a</style><p>", ((6, 0, 16, b"", b""),), b"<p>"),
     (b"<link><p>", ((7, 0, 6, b"", b"c"),), b"<style>c</style><p>"),
 )
+# Documents in XML with edits: names have case and prefixes, a tab and a newline are no spaces, and texts are escaped.
+EDITED_XML = (
+    (b"<a B='1'/>", ((1, 0, 0, b"b", b'\t\n\r"<'),), b"<a B='1' b=\"&#9;&#10;&#13;&quot;&lt;\"/>"),
+    (b"<a style='b'></a>", ((2, 0, 0, b"style", b"c;"),), b"<a style='c;b'></a>"),
+    (b"<a b='&lt;' c='d'/>", ((3, 0, 0, b"b", b""),), b"<a c='d'/>"),
+    (
+        b"<s:style xmlns:s='t'>a</s:style>",
+        ((4, 0, 22, b"", b"b&<]]>c"),),
+        b"<s:style xmlns:s='t'>b&amp;&lt;]]&gt;c</s:style>",
+    ),
+    (
+        b"<a><style><![CDATA[b]]><!-- c --></style></a>",
+        ((4, 1, 33, b"", b"d\r\n"),),
+        b"<a><style>d\r\n</style></a>",
+    ),
+    (
+        b"\xef\xbb\xbf<s:a xmlns:s='t'>b</s:a>",
+        ((5, 20, 0, b"s", b"c"),),
+        b"\xef\xbb\xbf<s:a xmlns:s='t'><s:style>c</s:style>b</s:a>",
+    ),
+    (b"<a><style/><b/></a>", ((6, 1, 11, b"", b""),), b"<a><b/></a>"),
+    (b"<a><h:link xmlns:h='t'> </h:link></a>", ((6, 1, 33, b"", b""),), b"<a></a>"),
+    (
+        b"<s:a xmlns:s='t'><s:link/></s:a>",
+        ((7, 1, 26, b"", b"b"),),
+        b"<s:a xmlns:s='t'><s:style>b</s:style></s:a>",
+    ),
+    (b"<?xml-stylesheet href='a'?><b/>", ((8, 0, 27, b"", b""),), b"<b/>"),
+)
+# Sheets with edits: of selectors, a value, a block, statements and what is in a rule.
+EDITED_SHEETS = (
+    (b"a{b:c}/* x */", ((1, 0, 1, b"d, e"), (2, 4, 5, b"f")), b"d, e{b:f}/* x */"),
+    (
+        b"@media x{a{}}@font-face{b:c}",
+        ((1, 7, 8, b"y"), (3, 24, 27, b"d:e")),
+        b"@media y{a{}}@font-face{d:e}",
+    ),
+    (b"a{} b{}", ((4, 0, 3, b""), (4, 7, 7, b" c{d:e}")), b" b{} c{d:e}"),
+    (b"a{b:c;d:e}", ((5, 2, 6, b""), (5, 9, 9, b";f{g:h}")), b"a{d:e;f{g:h}}"),
+)
 ANSWERS: Sequence[Tuple[str, Tuple[Any, ...], bytes]] = (
+    *(("simplecss_edit", sheet_edit_of(text, *edits), new) for text, edits, new in EDITED_SHEETS),
     *(("simplecss_html_edit", edit_of(page, *edits), text) for page, edits, text in EDITED),
+    (
+        "simplecss_inline",
+        inline_of(b"<p class=a>b", b".a{left:0}"),
+        b'<p class=a style="left: 0">b',
+    ),
+    (
+        "simplecss_inline",
+        inline_of(b"\xef\xbb\xbf<p>b", b"p{left:0}"),
+        b'\xef\xbb\xbf<p style="left: 0">b',
+    ),
+    *(
+        ("simplecss_html_edit", edit_of(page, *edits, flags=IS_XML), text)
+        for page, edits, text in EDITED_XML
+    ),
     *(("simplecss_html_encoding", (page, label), line) for page, label, line in ENCODED),
     *(("simplecss_clean", (text, policy, asked), kept) for policy, asked, text, kept in CLEANED),
     ("simplecss_version", (), version().encode()),
-    ("simplecss_port_selector", (b"ul>li.a , b",), b"ul > li[class~='a']\t0,1,2\n"),
     (
         "simplecss_list_text",
         (b"a, #b", PORT),
@@ -726,36 +998,36 @@ ANSWERS: Sequence[Tuple[str, Tuple[Any, ...], bytes]] = (
         (b"a { b: c }\n @media print { }",),
         b"2 2 12 at-rule not supported\n@media print\n",
     ),
-    *(("simplecss_imports", (text,), answer) for text, answer in IMPORTS),
-    *(("simplecss_print", (text, layout), printed) for text, layout, printed in PRINTED),
+    *(("simplecss_sheet_imports", (text,), answer) for text, answer in IMPORTS),
+    *(("simplecss_sheet_printed", (text, layout), printed) for text, layout, printed in PRINTED),
     *(("simplecss_lint", (text, asked), lines) for text, asked, lines in LINTED),
     *(("simplecss_close", (value,), closed) for value, closed in CLOSED),
-    ("simplecss_escape", (b"-1\0 a",), b"-\\31 \xef\xbf\xbd\\ a"),
-    ("simplecss_escape", (b"",), b""),
-    ("simplecss_quote", (b'a"\n\\\0',), b'"a\\"\\a \\\\\xef\xbf\xbd"'),
-    ("simplecss_decode", (b"\\61\\\n", 0), b"a\\\n"),
-    ("simplecss_decode", (b"\\61\\\n", 1), b"a"),
+    ("simplecss_spell", (b"-1\0 a", 2), b"-\\31 \xef\xbf\xbd\\ a"),
+    ("simplecss_spell", (b"", 2), b""),
+    ("simplecss_spell", (b'a"\n\\\0', 3), b'"a\\"\\a \\\\\xef\xbf\xbd"'),
+    ("simplecss_spell", (b"\\61\\\n", 0), b"a\\\n"),
+    ("simplecss_spell", (b"\\61\\\n", 1), b"a"),
     (
         "simplecss_match_selectors",
         (*buffer_of((b"li", b".new", b"ul")), PORT, PAGE),
         b"1: 3\n2: 1 2\n3: 1\n",
     ),
     (
-        "simplecss_rule_texts",
+        "simplecss_query_text",
         (
             sheets_of(buffer_of((b'a{>b,c "d"{e:f}> b::before , &.c{g:h}}',)), buffer_of(())),
-            NO_LIMIT,
+            *(MODERN, NO_LIMIT, PAGE),
         ),
         b"> b::before&.c",
     ),
     ("simplecss_port_match", (*SHEET, PAGE), b"1:\n2: 1 2\n3: 1\n"),
-    ("simplecss_select", (b"li", PORT, PAGE), b"2\n3\n"),
-    ("simplecss_select", (b"[alt='a\tb'], .new", PORT, PAGE), b"2\n3\n"),
-    ("simplecss_select", (b":link", PORT, STATES), b"1\n5\n"),
-    ("simplecss_select", (b":visited", PORT, STATES), b"2\n5\n"),
-    ("simplecss_select", (b":hover", PORT, STATES), b"3\n5\n"),
-    ("simplecss_select", (b":active", PORT, STATES), b"4\n5\n"),
-    ("simplecss_select", (b":focus", PORT, STATES), b"5\n"),
+    ("simplecss_port_selected", (b"li", PAGE), b"2\n3\n"),
+    ("simplecss_port_selected", (b"[alt='a\tb'], .new", PAGE), b"2\n3\n"),
+    ("simplecss_port_selected", (b":link", STATES), b"1\n5\n"),
+    ("simplecss_port_selected", (b":visited", STATES), b"2\n5\n"),
+    ("simplecss_port_selected", (b":hover", STATES), b"3\n5\n"),
+    ("simplecss_port_selected", (b":active", STATES), b"4\n5\n"),
+    ("simplecss_port_selected", (b":focus", STATES), b"5\n"),
     (
         "simplecss_list_text",
         (b" a > b, c:/**/BEFORE,d:not(.e, #f) ", MODERN),
@@ -788,44 +1060,9 @@ ANSWERS: Sequence[Tuple[str, Tuple[Any, ...], bytes]] = (
         (*SELECTORS3, QUIRKS, TREE3),
         b"1:\n2: 1 2\n3: 2 3 4\n4: 1 5\n5: 3 7\n6: 7\n",
     ),
-    ("simplecss_select", (b"LI, a", MODERN, TREE3), b"6\n"),
-    ("simplecss_select", (b":scope, & > a", MODERN, SCOPED), b"2\n3\n"),
-    ("simplecss_select", (b":scope > li", HTML, TREE3), b"2\n3\n4\n5\n"),
-    ("simplecss_select", (b"LI, a", HTML, TREE3), b"2\n3\n4\n5\n6\n"),
-    ("simplecss_select", (b":any-link, :HOVER", MODERN, STATES), b"1\n2\n3\n5\n"),
-    ("simplecss_select", (b":Target, :hover", MODERN, NAMED), b"1\n2\n"),
-    ("simplecss_select", (b":dir(rtl)", MODERN, NAMED), b"2\n"),
-    ("simplecss_select", (b":dir(rtl)", HTML, NAMED), b"2\n5\n"),
-    ("simplecss_select", (b":focus-within", MODERN, NAMED), b"3\n"),
-    ("simplecss_select", (b":fullscreen", MODERN, NAMED), b""),
-    ("simplecss_select", (b":hover", PORT, NAMED), b"2\n"),
-    ("simplecss_select", (b"n|a, s|*", MODERN, SPACED), b"1\n2\n"),
-    ("simplecss_select", (b"|a", MODERN, SPACED), b"4\n"),
-    ("simplecss_select", (b"*|a", MODERN, SPACED), b"1\n2\n4\n"),
-    ("simplecss_select", (b":not(n|*)", MODERN, SPACED), b"2\n3\n4\n"),
-    ("simplecss_select", (b"a > s|a > b", MODERN, SPACED), b"3\n"),
-    ("simplecss_select", (b"b", MODERN, DEFAULT), b"5\n"),
-    ("simplecss_select", (b".c", MODERN, DEFAULT), b"5\n"),
-    ("simplecss_select", (b":is(.c)", MODERN, DEFAULT), b"5\n"),
-    ("simplecss_select", (b"s|*:is(.c)", MODERN, DEFAULT), b"2\n"),
-    ("simplecss_select", (b"s|*:is(*)", MODERN, DEFAULT), b""),
-    ("simplecss_select", (b"*|*:not(a)", MODERN, DEFAULT), b"2\n3\n4\n5\n"),
-    ("simplecss_select", (b":own", MODERN, SPACED), b""),
-    ("simplecss_select", (b"a", PORT, SPACED), b"1\n2\n4\n"),
-    ("simplecss_select", (b"[n|k]", MODERN, ATTRIBUTED), b"2\n3\n"),
-    ("simplecss_select", (b"[m|k]", MODERN, ATTRIBUTED), b"1\n2\n"),
-    ("simplecss_select", (b"[*|k]", MODERN, ATTRIBUTED), b"1\n2\n3\n"),
-    ("simplecss_select", (b"[k]", MODERN, ATTRIBUTED), b"3\n"),
-    ("simplecss_select", (b"[|k]", MODERN, ATTRIBUTED), b"3\n"),
-    ("simplecss_select", (b"[o|k]", MODERN, ATTRIBUTED), b"3\n"),
-    ("simplecss_select", (b"[p|k]", MODERN, ATTRIBUTED), b""),
-    ("simplecss_select", (b"[n|k~=w], [*|l]", MODERN, ATTRIBUTED), b"2\n3\n"),
-    ("simplecss_select", (b"[n|k='V W' i], [n|k='1']", MODERN, ATTRIBUTED), b"2\n"),
-    ("simplecss_select", (b"[*|k='1']", MODERN, ATTRIBUTED), b"3\n"),
-    ("simplecss_select", (b"[m|K]", MODERN, ATTRIBUTED), b""),
-    ("simplecss_select", (b"[m|K]", HTML, ATTRIBUTED), b"1\n2\n"),
-    ("simplecss_select", (b":not([*|k])", MODERN, ATTRIBUTED), b"4\n"),
-    ("simplecss_select", (b"[k]", PORT, ATTRIBUTED), b"3\n"),
+    ("simplecss_port_selected", (b":hover", NAMED), b"2\n"),
+    ("simplecss_port_selected", (b"a", SPACED), b"1\n2\n4\n"),
+    ("simplecss_port_selected", (b"[k]", ATTRIBUTED), b"3\n"),
     ("simplecss_refusal", (b"s|a, n|*", MODERN, SPACED), b""),
     ("simplecss_refusal", (b"s|a,\n m|b", MODERN, SPACED), b"2 2 `m` is no declared prefix"),
     ("simplecss_refusal", (b"[s|a], [m|b]", MODERN, SPACED), b"1 9 `m` is no declared prefix"),
@@ -845,15 +1082,14 @@ ANSWERS: Sequence[Tuple[str, Tuple[Any, ...], bytes]] = (
     ("simplecss_values", (*REGISTERED, 2, 1, NO_LIMIT), b"\n\n"),
     ("simplecss_valid_value", (b"var(--a, var(--b))",), b"true"),
     ("simplecss_valid_value", (b"var(--a, var(b))",), b"false"),
-    ("simplecss_longhands", (b"margin",), b"margin-top margin-right margin-bottom margin-left"),
-    ("simplecss_shorthands", (b"margin-top",), b"all\nmargin\n"),
-    ("simplecss_shorthands", (b"margin",), b""),
-    ("simplecss_counterpart", (b"margin-top",), b"margin-block-start"),
-    ("simplecss_counterpart", (b"margin-block-start",), b"margin-top"),
-    ("simplecss_inherited", (b"color",), b"true"),
-    ("simplecss_inherited", (b"--color",), b"true"),
-    ("simplecss_inherited", (b"margin",), b"false"),
-    ("simplecss_port_style", (*SHEET, PAGE, b"color"), b"1:\n2: blue !important\n3: red\n"),
+    ("simplecss_property", (b"margin", 0), b"margin-top margin-right margin-bottom margin-left"),
+    ("simplecss_property", (b"margin-top", 1), b"all\nmargin\n"),
+    ("simplecss_property", (b"margin", 1), b""),
+    ("simplecss_property", (b"margin-top", 2), b"margin-block-start"),
+    ("simplecss_property", (b"margin-block-start", 2), b"margin-top"),
+    ("simplecss_property", (b"color", 3), b"true"),
+    ("simplecss_property", (b"--color", 3), b"true"),
+    ("simplecss_property", (b"margin", 3), b"false"),
     ("simplecss_port_styles", (*SHEET, PAGE), b"0\n1\n" + BLUE + b"1\n" + RED),
 )
 
@@ -890,23 +1126,30 @@ for _text, _status in ((b"", REFUSED), (b"a:none(b)", REFUSED), (BROKEN, NOT_UTF
         (f"simplecss_{name}", (_text, each), _status)
         for name, each in itertools.product(("list_numbers", "list_text"), _GRAMMARS)
     ]
-    FAILURES += [("simplecss_port_selector", (_text,), _status)]
 FAILURES += [("simplecss_refusal", (BROKEN, each, PAGE), NOT_UTF8) for each in _GRAMMARS]
 FAILURES += [
     (f"simplecss_{name}", (BROKEN,), NOT_UTF8)
     for name in (
-        *("port_skipped", "read", "declarations", "imports", "close", "tokens", "escape", "quote"),
-        *("contents", "valid_value", "longhands", "shorthands", "inherited"),
+        *("port_skipped", "sheet_statements", "declarations", "sheet_imports", "close", "tokens"),
+        *("sheet_contents", "valid_value"),
     )
 ]
-FAILURES += [("simplecss_decode", (BROKEN, each), NOT_UTF8) for each in (0, 1)]
+FAILURES += [
+    (f"simplecss_{name}", (BROKEN, each), REFUSED if each == 4 else NOT_UTF8)
+    for name, each in itertools.product(("spell", "property"), range(5))
+]
 # What is no grammar is refused before anything else.
 FAILURES += [(f"simplecss_{name}", (BROKEN, 4), REFUSED) for name in ("list_numbers", "list_text")]
 FAILURES += [("simplecss_refusal", (BROKEN, 4, PAGE), REFUSED)]
-FAILURES += [("simplecss_print", (b"a{}", 2), REFUSED), ("simplecss_print", (BROKEN, 0), NOT_UTF8)]
+FAILURES += [
+    ("simplecss_sheet_printed", (b"a{}", 3), REFUSED),
+    ("simplecss_sheet_printed", (BROKEN, 0), NOT_UTF8),
+    ("simplecss_sheet_statements", (b"a{}", 2), REFUSED),
+]
 FAILURES += [("simplecss_close", (value,), REFUSED) for value in UNCLOSED]
 FAILURES += [
-    ("simplecss_select", (text, MODERN, SPACED), REFUSED) for text in (b"m|a", b"[m|a]", b"N|a")
+    ("simplecss_page_select", (SPACED, MODERN, text, 0, 0, NO_LIMIT), REFUSED)
+    for text in (b"m|a", b"[m|a]", b"N|a")
 ]
 FAILURES += [
     ("simplecss_media", (BROKEN, SCREEN), NOT_UTF8),
@@ -924,8 +1167,8 @@ FAILURES += [
     ("simplecss_values", (b"--a", sizes([3]), 1, 1, 1), REFUSED),
     ("simplecss_values", (b"--a", sizes([3, 1]), 1, 1, 1), REFUSED),
     ("simplecss_values", (BROKEN, sizes([1]), 1, 1, 1), NOT_UTF8),
-    ("simplecss_longhands", (b"color",), REFUSED),
-    ("simplecss_counterpart", (b"margin",), REFUSED),
+    ("simplecss_property", (b"color", 0), REFUSED),
+    ("simplecss_property", (b"margin", 2), REFUSED),
 ]
 # Of two faults of texts the first is reported.
 for _sheet, _status in (
@@ -943,7 +1186,6 @@ for _sheet, _status in (
         ("simplecss_port_rules", _sheet, _status),
         ("simplecss_port_match", (*_sheet, PAGE), _status),
         ("simplecss_port_styles", (*_sheet, PAGE), _status),
-        ("simplecss_port_style", (*_sheet, PAGE, b"color"), _status),
     ]
 _BROKEN_PAGE = (Elements([0, 0, 0]), BROKEN, sizes([1]))
 for _texts, _status in (
@@ -962,10 +1204,13 @@ for _texts, _status in (
 # of a question, and texts that are not UTF-8.
 BAD_POLICIES = (
     (policy_of(b"a > b", (b"a",), (), (), (), ()), REFUSED),
-    (PolicyArrays(*fields_of((b"ab", sizes([1]))), 0, 0, 0, 0, 1, 0, 9), REFUSED),
-    (PolicyArrays(*fields_of((b".a", sizes([2]))), 1, 0, 0, 0, 1, 0, 9), REFUSED),
-    (PolicyArrays(*fields_of((b".ab", sizes([2, 3]))), 0, 0, 0, NO_LIMIT, 1, 0, 9), REFUSED),
-    (PolicyArrays(*fields_of((b"", sizes([]))), 0, 0, 0, 0, 1, 0, 9), REFUSED),
+    (PolicyArrays(*fields_of((b"ab", sizes([1, 1]))), *[0] * 8, 1, 0, 9), REFUSED),
+    (PolicyArrays(*fields_of((b".a", sizes([2, 2]))), 1, *[0] * 7, 1, 0, 9), REFUSED),
+    (PolicyArrays(*fields_of((b".ab", sizes([2, 2, 3]))), *[0] * 4, 1, 0, 0, 0, 1, 0, 9), REFUSED),
+    (PolicyArrays(*fields_of((b".ab", sizes([2, 2, 3]))), *[0] * 6, NO_LIMIT, 0, 1, 0, 9), REFUSED),
+    (PolicyArrays(*fields_of((b".ab", sizes([2, 2, 3]))), *[0] * 7, 1, 1, 0, 9), REFUSED),
+    (PolicyArrays(*fields_of((b".a", sizes([2]))), *[0] * 8, 1, 0, 9), REFUSED),
+    (PolicyArrays(*fields_of((b"", sizes([]))), *[0] * 8, 1, 0, 9), REFUSED),
     (policy_of(b".a", (BROKEN,), (), (), (), ()), NOT_UTF8),
 )
 for _policy, _status in BAD_POLICIES:
@@ -975,9 +1220,10 @@ for _policy, _status in BAD_POLICIES:
         ("simplecss_dropped", (b"p{}", _policy, 0), _status),
     ]
 FAILURES += [
-    *(("simplecss_clean", (BROKEN, POLICY, asked), NOT_UTF8) for asked in range(4)),
+    *(("simplecss_clean", (BROKEN, POLICY, asked), NOT_UTF8) for asked in (0, 1, 2, 3, 6)),
     *(("simplecss_dropped", (BROKEN, POLICY, form), NOT_UTF8) for form in range(2)),
-    ("simplecss_clean", (BROKEN, POLICY, 6), REFUSED),
+    *(("simplecss_refused_values", (BROKEN, attribute), NOT_UTF8) for attribute in range(2)),
+    ("simplecss_clean", (BROKEN, POLICY, 7), REFUSED),
     ("simplecss_dropped", (BROKEN, POLICY, 2), REFUSED),
 ]
 FAILURES += [
@@ -1036,6 +1282,7 @@ _EXPLAINED = sheets_of(
     buffer_of((b"@layer x{*{a:1!important;a:2}} z{a:3;A:4} .y{b:5;c:6} #w{a:7}",)), _NO_GROUPS
 )
 _EXPLAINED_OWN = own_of(b"d:e;a:f", b"b:g")
+_EXPLAINED_PAGE = tree_of((0, b"z", b"class", b"y", b"id", b"w"), (0, b"p"))
 for _texts, _status in (
     ((b"ab", sizes([1])), REFUSED),
     (buffer_of((b"a", BROKEN)), NOT_UTF8),
@@ -1044,39 +1291,77 @@ for _texts, _status in (
 ):
     _sheets = sheets_of(_texts, _NO_GROUPS)
     FAILURES += [
-        ("simplecss_rules", (_sheets, 2), _status),
-        ("simplecss_rule_texts", (_sheets, 2), _status),
-        ("simplecss_winners", (_sheets, HTML, 2, PAGE, NO_OWN), _status),
-        ("simplecss_winners_named", (_sheets, HTML, 2, PAGE, NO_OWN, asked_of()), _status),
-        ("simplecss_matches", (_sheets, HTML, 2, PAGE), _status),
-        ("simplecss_explain", (_sheets, 2, sizes([]), NO_OWN, *_NO_GROUPS), _status),
+        ("simplecss_query_rules", (_sheets, HTML, 2, PAGE), _status),
+        ("simplecss_query_text", (_sheets, HTML, 2, PAGE), _status),
+        ("simplecss_query_winners", (_sheets, HTML, 2, PAGE, NO_OWN), _status),
+        ("simplecss_query_winners_named", (_sheets, HTML, 2, PAGE, NO_OWN, asked_of()), _status),
+        ("simplecss_query_matches", (_sheets, HTML, 2, PAGE), _status),
+        ("simplecss_query_explained", (_sheets, HTML, 2, PAGE, NO_OWN, asked_of()), _status),
     ]
     if _status in (REFUSED, NOT_UTF8):
         _sheets = sheets_of(_NO_GROUPS, _texts)
         FAILURES += [
-            ("simplecss_rules", (_sheets, 2), _status),
-            ("simplecss_winners", (_sheets, HTML, 2, PAGE, NO_OWN), _status),
+            ("simplecss_query_winners", (_sheets, HTML, 2, PAGE, NO_OWN), _status),
         ]
         _sheets = sheets_of(_NO_GROUPS, _NO_GROUPS, namespaces=_texts)
-        FAILURES += [
-            ("simplecss_rules", (_sheets, 2), _status),
-            ("simplecss_matches", (_sheets, HTML, 2, PAGE), _status),
-        ]
+        FAILURES += [("simplecss_query_matches", (_sheets, HTML, 2, PAGE), _status)]
         _own, _asked = OwnArrays(*fields_of(_texts)), AskedArrays(*fields_of(_texts))
         FAILURES += [
-            ("simplecss_winners", (_RULES, HTML, NO_LIMIT, PAGE, _own), _status),
-            ("simplecss_winners_named", (_RULES, HTML, NO_LIMIT, PAGE, _own, asked_of()), _status),
-            ("simplecss_winners_named", (_RULES, HTML, NO_LIMIT, PAGE, NO_OWN, _asked), _status),
-            ("simplecss_explain", (_RULES, NO_LIMIT, sizes([]), _own, *_NO_GROUPS), _status),
-            ("simplecss_explain", (_RULES, NO_LIMIT, sizes([]), NO_OWN, *_texts), _status),
+            ("simplecss_query_winners", (_RULES, HTML, NO_LIMIT, PAGE, _own), _status),
+            (
+                "simplecss_query_winners_named",
+                (_RULES, HTML, NO_LIMIT, PAGE, _own, asked_of()),
+                _status,
+            ),
+            (
+                "simplecss_query_winners_named",
+                (_RULES, HTML, NO_LIMIT, PAGE, NO_OWN, _asked),
+                _status,
+            ),
+            ("simplecss_query_explained", (_RULES, HTML, NO_LIMIT, PAGE, NO_OWN, _asked), _status),
         ]
 FAILURES += [
-    ("simplecss_explain", (_RULES, NO_LIMIT, sizes([1, 0]), NO_OWN, *_NO_GROUPS), REFUSED),
-    ("simplecss_explain", (_RULES, NO_LIMIT, sizes([0, 2, 2]), NO_OWN, *_NO_GROUPS), REFUSED),
-    ("simplecss_winners", (_RULES, PORT, NO_LIMIT, PAGE, NO_OWN), REFUSED),
-    ("simplecss_winners", (_RULES, 4, NO_LIMIT, _BROKEN_PAGE, NO_OWN), REFUSED),
-    ("simplecss_winners", (_RULES, MODERN, NO_LIMIT, _BROKEN_PAGE, NO_OWN), NOT_UTF8),
+    ("simplecss_query_winners", (_RULES, PORT, NO_LIMIT, PAGE, NO_OWN), REFUSED),
+    ("simplecss_query_winners", (_RULES, 4, NO_LIMIT, _BROKEN_PAGE, NO_OWN), REFUSED),
+    ("simplecss_query_winners", (_RULES, MODERN, NO_LIMIT, _BROKEN_PAGE, NO_OWN), NOT_UTF8),
 ]
+# Pages, and which of their elements lists of selectors match, by their numbers.
+SELECTED = (
+    (TREE3, MODERN, b"LI, a", (6,)),
+    (TREE3, HTML, b":scope > li", (2, 3, 4, 5)),
+    (TREE3, HTML, b"LI, a", (2, 3, 4, 5, 6)),
+    (STATES, MODERN, b":any-link, :HOVER", (1, 2, 3, 5)),
+    (NAMED, MODERN, b":Target, :hover", (1, 2)),
+    (NAMED, MODERN, b":dir(rtl)", (2,)),
+    (NAMED, HTML, b":dir(rtl)", (2, 5)),
+    (NAMED, MODERN, b":focus-within", (3,)),
+    (NAMED, MODERN, b":fullscreen", ()),
+    (SPACED, MODERN, b"n|a, s|*", (1, 2)),
+    (SPACED, MODERN, b"|a", (4,)),
+    (SPACED, MODERN, b"*|a", (1, 2, 4)),
+    (SPACED, MODERN, b":not(n|*)", (2, 3, 4)),
+    (SPACED, MODERN, b"a > s|a > b", (3,)),
+    (DEFAULT, MODERN, b"b", (5,)),
+    (DEFAULT, MODERN, b".c", (5,)),
+    (DEFAULT, MODERN, b":is(.c)", (5,)),
+    (DEFAULT, MODERN, b"s|*:is(.c)", (2,)),
+    (DEFAULT, MODERN, b"s|*:is(*)", ()),
+    (DEFAULT, MODERN, b"*|*:not(a)", (2, 3, 4, 5)),
+    (SPACED, MODERN, b":own", ()),
+    (ATTRIBUTED, MODERN, b"[n|k]", (2, 3)),
+    (ATTRIBUTED, MODERN, b"[m|k]", (1, 2)),
+    (ATTRIBUTED, MODERN, b"[*|k]", (1, 2, 3)),
+    (ATTRIBUTED, MODERN, b"[k]", (3,)),
+    (ATTRIBUTED, MODERN, b"[|k]", (3,)),
+    (ATTRIBUTED, MODERN, b"[o|k]", (3,)),
+    (ATTRIBUTED, MODERN, b"[p|k]", ()),
+    (ATTRIBUTED, MODERN, b"[n|k~=w], [*|l]", (2, 3)),
+    (ATTRIBUTED, MODERN, b"[n|k='V W' i], [n|k='1']", (2,)),
+    (ATTRIBUTED, MODERN, b"[*|k='1']", (3,)),
+    (ATTRIBUTED, MODERN, b"[m|K]", ()),
+    (ATTRIBUTED, HTML, b"[m|K]", (1, 2)),
+    (ATTRIBUTED, MODERN, b":not([*|k])", (4,)),
+)
 # A call that writes numbers, its arguments, and what they are.
 NUMBERS: Sequence[Tuple[str, Tuple[Any, ...], Sequence[Sequence[int]]]] = (
     ("simplecss_tokens", (b"",), ()),
@@ -1096,8 +1381,8 @@ NUMBERS: Sequence[Tuple[str, Tuple[Any, ...], Sequence[Sequence[int]]]] = (
     ),
     ("simplecss_tokens", (b"'a\n",), ((8, 0, 2, 1, 2), (0, 2, 3, 2, 3))),
     (
-        "simplecss_rules",
-        (_RULES, NO_LIMIT),
+        "simplecss_query_rules",
+        (_RULES, HTML, NO_LIMIT, PAGE),
         (
             (1, 12, 0, 2, 0, 0, 0, 1, 2, 12, 1, 14, 1, 0, 1, 16, 3, 20, 4, 0, 0),
             (0, 7, 1, 1, 0, 0, 0, 1, 2, 7, 1, 9, 1, 0, 1, 11, 1, 13, 1, 0, 1),
@@ -1106,16 +1391,19 @@ NUMBERS: Sequence[Tuple[str, Tuple[Any, ...], Sequence[Sequence[int]]]] = (
         ),
     ),
     (
-        "simplecss_rules",
-        (sheets_of(buffer_of((b"a,#b{> c:/**/before , &.d{e:f}}",)), _NO_GROUPS), NO_LIMIT),
+        "simplecss_query_rules",
+        (
+            sheets_of(buffer_of((b"a,#b{> c:/**/before , &.d{e:f}}",)), _NO_GROUPS),
+            *(MODERN, NO_LIMIT, PAGE),
+        ),
         (
             (0, 26, 0, 14, 6, 1, 0, 2, 1, 26, 1, 28, 1, 0, 1),
             (0, 26, 0, 3, 0, 1, 1, 0, 1, 26, 1, 28, 1, 0, 1),
         ),
     ),
     (
-        "simplecss_rules",
-        (_AROUND, NO_LIMIT),
+        "simplecss_query_rules",
+        (_AROUND, QUIRKS, NO_LIMIT, PAGE),
         (
             (3, 2, 0, 1, 0, 0, 0, 0, 1, 2, 1, 4, 1, 0, 1),
             (0, 2, 1, 1, 0, 0, 0, 0, 1, 2, 1, 4, 1, 0, 1),
@@ -1156,65 +1444,81 @@ NUMBERS: Sequence[Tuple[str, Tuple[Any, ...], Sequence[Sequence[int]]]] = (
             ((6, 0, NO_LIMIT), ()),
         )
     ),
+    ("simplecss_page_select", (SCOPED, MODERN, b":scope, & > a", 2, 0, NO_LIMIT), ((2, 3),)),
     ("simplecss_page_select", (SPACED, HTML, b"n|b, s|a, :own", 0, 1, 9), ((2, 5),)),
+    *(
+        ("simplecss_page_select", (page, grammar, text, 0, 0, NO_LIMIT), (found,))
+        for page, grammar, text, found in SELECTED
+    ),
     ("simplecss_page_select", (TREE3, QUIRKS, b".NEW, LI:empty", 0, 0, 4), ((2, 3),)),
     (
-        "simplecss_winners",
+        "simplecss_query_winners",
         (_RULES, HTML, NO_LIMIT, PAGE, NO_OWN),
         ((0,), (4, 0, 1, 3, 0, 3, 1, 2, 0), (2, 0, 1, 2, 0)),
     ),
     (
-        "simplecss_winners",
+        "simplecss_query_winners",
         (_RULES, HTML, NO_LIMIT, PAGE, _OWN),
         ((0,), (6, 0, 1, 3, 1, 4, 0, 4, 1, 2, 0, 5, 2), (2, 0, 1, 2, 0)),
     ),
     (
-        "simplecss_winners_named",
+        "simplecss_query_winners_named",
         (_RULES, HTML, NO_LIMIT, PAGE, _OWN, asked_of((b"d", b"y"), (), (b"F", b"b"))),
         ((6, 0, 6, 0, 6, 0), (4, 1, 6, 0, 2, 0), (6, 0, 6, 0, 2, 0)),
     ),
     (
-        "simplecss_winners",
+        "simplecss_query_winners",
         (_ORIGINS, MODERN, NO_LIMIT, PAGE, NO_OWN),
         ((2, 2, 0, 0, 1),) * 3,
     ),
-    ("simplecss_matches", (_RULES, HTML, NO_LIMIT, PAGE), ((0,), (3, 0, 2, 3), (2, 0, 2))),
+    ("simplecss_query_matches", (_RULES, HTML, NO_LIMIT, PAGE), ((0,), (3, 0, 2, 3), (2, 0, 2))),
     # By importance, the attribute, a layer, the specificity, and the order; a hint is before all of the author's.
     (
-        "simplecss_explain",
-        (_EXPLAINED, NO_LIMIT, sizes([0, 1, 2, 3, 9]), _EXPLAINED_OWN, *buffer_of((b"a", b"B"))),
-        ((0, 0, 0), (4, 1, 1), (3, 0, 2), (2, 0, 4), (1, 1, 4), (1, 0, 5), (0, 1, 3), (5, 0, 1)),
+        "simplecss_query_explained",
+        (_EXPLAINED, MODERN, NO_LIMIT, _EXPLAINED_PAGE, _EXPLAINED_OWN, asked_of((b"a",), (b"B",))),
+        (
+            (8, 0, 0, 0, 4, 1, 1, 3, 0, 2, 2, 0, 4, 1, 1, 4, 1, 0, 5, 0, 1, 3, 5, 0, 1),
+            (2, 0, 0, 0, 0, 1, 1),
+        ),
     ),
-    ("simplecss_explain", (_EXPLAINED, 8, sizes([0, 2]), NO_OWN, b"b", sizes([1])), ((2, 0, 0),)),
-    ("simplecss_explain", (_EXPLAINED, 8, sizes([0]), NO_OWN, *_NO_GROUPS), ()),
     (
-        "simplecss_winners",
+        "simplecss_query_explained",
+        (_EXPLAINED, HTML, 8, _EXPLAINED_PAGE, NO_OWN, asked_of((b"b",))),
+        ((1, 2, 0, 0), (0,)),
+    ),
+    (
+        "simplecss_query_explained",
+        (_EXPLAINED, HTML, 8, _EXPLAINED_PAGE, _EXPLAINED_OWN, asked_of()),
+        ((0,), (0,)),
+    ),
+    (
+        "simplecss_query_winners",
         (_NESTED, MODERN, NO_LIMIT, PAGE, NO_OWN),
         ((0,), (4, 2, 0, 3, 0, 4, 0, 5, 0), (4, 0, 0, 2, 0, 3, 0, 4, 0)),
     ),
     (
-        "simplecss_matches",
+        "simplecss_query_matches",
         (_NESTED, HTML, NO_LIMIT, PAGE),
         ((0,), (5, 0, 2, 3, 4, 5), (4, 0, 2, 3, 4)),
     ),
     # The rules are `m|*`, `*|*`, `a`, `n|b`, `b` and `[n|k]`; without namespaces `*|*`, `a` and `b`.
     (
-        "simplecss_matches",
+        "simplecss_query_matches",
         (_KNOWN, MODERN, NO_LIMIT, _KNOWN_PAGE),
         ((2, 1, 2), (1, 1), (3, 1, 3, 4), (1, 1), (3, 1, 4, 5)),
     ),
     (
-        "simplecss_matches",
+        "simplecss_query_matches",
         (_UNKNOWN, MODERN, NO_LIMIT, _KNOWN_PAGE),
         ((2, 0, 1), (2, 0, 1), (2, 0, 2), (2, 0, 1), (2, 0, 2)),
     ),
     (
-        "simplecss_winners",
+        "simplecss_query_winners",
         (_KNOWN, MODERN, NO_LIMIT, _KNOWN_PAGE, NO_OWN),
         ((1, 2, 0), (1, 1, 0), (1, 4, 0), (1, 1, 0), (1, 5, 0)),
     ),
     (
-        "simplecss_read",
+        "simplecss_sheet_statements",
         (b"@namespace n 'u';n|a,b{c:d}m|a{}[n|k]{}",),
         (
             (2, 0, 17, 1, 1, 9, 11, 5, 0, 0, 0, 0, 0),
@@ -1227,27 +1531,31 @@ NUMBERS: Sequence[Tuple[str, Tuple[Any, ...], Sequence[Sequence[int]]]] = (
             (32, 5, 0, 0, 0, 0, 37, 37, 0),
         ),
     ),
-    ("simplecss_read", (MODERN_SHEET,), MODERN_NUMBERS),
-    ("simplecss_read", ("é{é:é".encode(),), BYTES_NUMBERS),
+    ("simplecss_sheet_statements", (MODERN_SHEET,), MODERN_NUMBERS),
+    ("simplecss_sheet_statements", ("é{é:é".encode(),), BYTES_NUMBERS),
     (
-        "simplecss_read",
+        "simplecss_sheet_statements",
         (b"a:dir(b,), :before, c >/**/::after, :host > ::part(e) {}",),
         UNREAD_NUMBERS,
     ),
-    ("simplecss_read", (b" /* */ <!-- ",), ()),
-    *(("simplecss_contents", (text,), numbers) for text, numbers in CONTENTS),
+    ("simplecss_sheet_statements", (b" /* */ <!-- ",), ()),
+    *(("simplecss_sheet_contents", (text,), numbers) for text, numbers in CONTENTS),
     *(("simplecss_dropped", (text, policy, form), rows) for policy, form, text, rows in DROPPED),
+    *(
+        ("simplecss_refused_values", (text, attribute), places)
+        for text, attribute, places in REFUSED_VALUES
+    ),
     ("simplecss_declarations", (DECLARATIONS,), DECLARATION_NUMBERS),
     *(
         ("simplecss_declarations", (text,), ((kind, 0, len(text), *[0] * 7),))
         for text, kind in SKIPPED
     ),
     *(
-        ("simplecss_read", (text,), ((kind, 0, len(text), *[0] * 10),))
+        ("simplecss_sheet_statements", (text,), ((kind, 0, len(text), *[0] * 10),))
         for text, kind in SKIPPED_STATEMENTS
     ),
     (
-        "simplecss_read",
+        "simplecss_sheet_statements",
         (b"a{b{}}",),
         (
             (3, 0, 6, 1, 0, 1, 2, 3, 0, 0, 0, 9, 10),
@@ -1278,24 +1586,19 @@ FAILURES += [
     ("simplecss_match_selectors", (*buffer_of((b"a",)), MODERN, _BROKEN_PAGE), NOT_UTF8),
     ("simplecss_refusal", (b"a", MODERN, _BROKEN_PAGE), NOT_UTF8),
     ("simplecss_refusal", (b"a", HTML, _BROKEN_PAGE), NOT_UTF8),
-    ("simplecss_select", (b"a", 4, PAGE), REFUSED),
     ("simplecss_page_select", (PAGE, 4, b"a", 0, 0, 1), REFUSED),
     ("simplecss_page_select", (PAGE, PORT, b"a", 0, 0, 1), REFUSED),
     ("simplecss_page_select", (PAGE, MODERN, b"a,", 0, 0, 1), REFUSED),
     ("simplecss_page_select", (PAGE, MODERN, BROKEN, 0, 0, 1), NOT_UTF8),
     ("simplecss_page_select", (_BROKEN_PAGE, HTML, b"a", 0, 0, 1), NOT_UTF8),
-    ("simplecss_select", (BROKEN, 4, _BROKEN_PAGE), REFUSED),
-    ("simplecss_select", (b"a,", MODERN, PAGE), REFUSED),
-    ("simplecss_select", (BROKEN, MODERN, PAGE), NOT_UTF8),
-    ("simplecss_select", (b"a", MODERN, _BROKEN_PAGE), NOT_UTF8),
     ("simplecss_match_selectors", (*buffer_of((b"a",)), PORT, _BROKEN_PAGE), NOT_UTF8),
-    ("simplecss_select", (b"a,", PORT, PAGE), REFUSED),
-    ("simplecss_select", (BROKEN, PORT, PAGE), NOT_UTF8),
-    ("simplecss_select", (b"a", PORT, _BROKEN_PAGE), NOT_UTF8),
+    ("simplecss_port_selected", (b"a,", PAGE), REFUSED),
+    ("simplecss_port_selected", (BROKEN, PAGE), NOT_UTF8),
+    ("simplecss_port_selected", (b"a", _BROKEN_PAGE), NOT_UTF8),
     ("simplecss_port_match", (*SHEET, _BROKEN_PAGE), NOT_UTF8),
     ("simplecss_port_styles", (*SHEET, _BROKEN_PAGE), NOT_UTF8),
-    ("simplecss_port_style", (*SHEET, _BROKEN_PAGE, b"color"), NOT_UTF8),
-    ("simplecss_port_style", (*SHEET, PAGE, BROKEN), NOT_UTF8),
+    # What is asked by no number is refused before anything else.
+    ("simplecss_port_none", (BROKEN, sizes([9]), 0, _BROKEN_PAGE), REFUSED),
 ]
 
 
@@ -1356,14 +1659,12 @@ class Calls(Case):
             for name, arguments in (
                 ("simplecss_port_match", (*SHEET, page)),
                 ("simplecss_port_styles", (*SHEET, page)),
-                ("simplecss_port_style", (*SHEET, page, b"color")),
-                ("simplecss_select", (b"a", PORT, page)),
+                ("simplecss_port_selected", (b"a", page)),
                 ("simplecss_match_selectors", (b"a", sizes([1]), PORT, page)),
                 ("simplecss_match_selectors", (b"a", sizes([1]), HTML, page)),
-                ("simplecss_select", (b"a", HTML, page)),
                 ("simplecss_refusal", (b"a", HTML, page)),
                 ("simplecss_page_select", (page, HTML, b"a", 0, 0, 1)),
-                ("simplecss_winners", (_RULES, HTML, NO_LIMIT, page, NO_OWN)),
+                ("simplecss_query_winners", (_RULES, HTML, NO_LIMIT, page, NO_OWN)),
             ):
                 self.fails(name, arguments, TREE_FAULT, (fault, element))
 
@@ -1374,13 +1675,20 @@ class Calls(Case):
         refused: List[Tuple[bytes, Sequence[Edit]]] = [
             (b"<p>a", [(1, 1, 0, b"a", b"")]),
             (b"<p><b>a", [(1, 1, 0, b"a", b""), (1, 0, 0, b"a", b"")]),
-            (b"<p>a", [(8, 0, 0, b"a", b"")]),
+            (b"<p>a", [(9, 0, 0, b"a", b"")]),
+            (b"<?xml-stylesheet href='a'?><p>a", [(8, 0, 27, b"", b"")]),
+            (b"<p>a", [(5, 0, 0, b"s", b"a")]),
             (b"<p>a", [(5, 5, 0, b"", b"")]),
             (b"<p>a", [(5, 0, 0, b"", b"a</STYLE>")]),
             (b"<p>a</p>", [(4, 0, 4, b"", b"")]),
             (b"<p>a</p>", [(6, 0, 8, b"", b"")]),
             (b"<style>a</style>b", [(6, 0, 17, b"", b"")]),
             (b"<link>a", [(6, 0, 7, b"", b"")]),
+            # What is put in would be in a comment, a value, a text, and the comment that `</<` begins.
+            (b"<!-- a -->", [(5, 5, 0, b"", b"b")]),
+            (b"<p a='b'>", [(5, 6, 0, b"", b"c")]),
+            (b"<title>a</title>", [(5, 8, 0, b"", b"b")]),
+            (b"<p>a</", [(5, 6, 0, b"", b"b")]),
         ]
         for page, edits in refused:
             self.fails(name, edit_of(page, *edits), REFUSED, (88, 99))
@@ -1393,6 +1701,56 @@ class Calls(Case):
             self.fails(name, edit_of(page, edit), TREE_FAULT, (5, tag))
         self.fails(name, edit_of(BROKEN), NOT_UTF8, (88, 99))
         self.fails(name, edit_of(b"a", (5, 0, 0, b"", BROKEN)), NOT_UTF8, (88, 99))
+
+    def test_edits_of_xml(self) -> None:
+        """Those of a text that is no document, or none with the edits; of texts and elements that are not where they say;
+        and those by which a tag is not read as they say."""
+        name = "simplecss_html_edit"
+        refused: List[Tuple[bytes, Edit]] = [
+            (b"<p>a", (1, 0, 0, b"a", b"")),
+            (b"<p/>", (1, 0, 0, b"a:b", b"")),
+            (b"<p xmlns:a='c' xmlns:b='c' a:d=''/>", (1, 0, 0, b"b:d", b"")),
+            (b"<p/>", (5, 0, 0, b"", b"")),
+            (b"<p></p>", (5, 3, 0, b"s", b"")),
+            (b"<p></p>", (5, 3, 0, b"s><t", b"")),
+            (b"<p><STYLE></STYLE></p>", (4, 1, 10, b"", b"a")),
+            (b"<p><style/></p>", (4, 1, 11, b"", b"a")),
+            (b"<p><style>a<b/></style></p>", (6, 1, 23, b"", b"")),
+            (b"<p><style>a</style></p>", (4, 1, 10, b"", b"\1")),
+            (b"<?xml-style href='a'?><p/>", (8, 0, 22, b"", b"")),
+        ]
+        for page, edit in refused:
+            self.fails(name, edit_of(page, edit, flags=IS_XML), REFUSED, (88, 99))
+        for page, edit, tag in (
+            (b"<p/>", (1, 0, 0, b"a b", b""), 1),
+            (b"<p/>", (1, 0, 0, b"a", b"\1"), 1),
+            (b"<p><q/></p>", (1, 1, 0, b"", b""), 2),
+        ):
+            self.fails(name, edit_of(page, edit, flags=IS_XML), TREE_FAULT, (5, tag))
+
+    def test_sheet_edits(self) -> None:
+        """Edits that are none, those out of order or outside of the sheet, and those that would be read as
+        something else, of which the number is named."""
+        name, text = "simplecss_edit", b"a{b:c}@media x{d{}}"
+        self.fails(name, sheet_edit_of(text, (6, 0, 1, b"e")), REFUSED, (88, 99))
+        self.fails(name, (text, sizes([1, 0]), b"e", sizes([1])), REFUSED, (88, 99))
+        for edits, number in (
+            ([(1, 1, 0, b"e")], 1),
+            ([(2, 4, 5, b"f"), (1, 0, 1, b"e")], 2),
+            ([(4, 19, 20, b"")], 1),
+        ):
+            self.fails(name, sheet_edit_of(text, *edits), TREE_FAULT, (6, number))
+        for edits, number in (
+            ([(1, 0, 1, b"e{")], 1),
+            ([(2, 4, 5, b"f;g:h")], 1),
+            ([(1, 0, 1, b"e"), (2, 4, 5, b"}")], 2),
+            ([(4, 0, 6, b"e{f:g")], 1),
+            ([(4, 2, 2, b"e:f;")], 1),
+            ([(5, 0, 0, b"e{}")], 1),
+            ([(4, 0, 2, b"")], 1),
+        ):
+            self.fails(name, sheet_edit_of(text, *edits), TREE_FAULT, (7, number))
+        self.fails(name, sheet_edit_of(BROKEN), NOT_UTF8, (88, 99))
 
     def fails(
         self, name: str, arguments: Sequence[Any], status: int, fault: Tuple[int, int]
@@ -1483,14 +1841,13 @@ class Limits(Case):
             ("simplecss_port_match", (*sheet, page)),
             ("simplecss_match_selectors", (*stars, PORT, page)),
             ("simplecss_match_selectors", (*stars, HTML, page)),
-            ("simplecss_read", (nested,)),
-            ("simplecss_port_style", (*long_sheet, page, b"a")),
+            ("simplecss_sheet_statements", (nested,)),
             ("simplecss_port_styles", (*long_sheet, page)),
             (
-                "simplecss_matches",
+                "simplecss_query_matches",
                 (sheets_of((rules, sheet[1]), buffer_of(())), HTML, NO_LIMIT, page),
             ),
-            ("simplecss_winners", (_MANY_NESTED, HTML, NO_LIMIT, page, NO_OWN)),
+            ("simplecss_query_winners", (_MANY_NESTED, HTML, NO_LIMIT, page, NO_OWN)),
         )
         for name, arguments in calls:
             with self.subTest(call=name):
@@ -1504,7 +1861,7 @@ class Limits(Case):
         for most, status in ((11, LIMIT), (12, TOO_SMALL)):
             with self.subTest(most=most):
                 arguments = (_NESTED, MODERN, NO_LIMIT, PAGE)
-                found = call(self.library, "simplecss_matches", arguments, 0, most)
+                found = call(self.library, "simplecss_query_matches", arguments, 0, most)
                 self.assertEqual(found[0], status)
 
 
@@ -1530,20 +1887,19 @@ def large_sheets() -> Iterator[Tuple[str, Tuple[Any, ...], int]]:
     none, asked = buffer_of(()), asked_of((b"a",))
     for texts in (many_texts(b"p{a:b}" * MANY, 1), many_texts(b"p{a:b}")):
         sheets = (sheets_of(texts, none), HTML, NO_LIMIT)
-        yield "simplecss_rules", (sheets[0], NO_LIMIT), (9 + 6) * MANY
-        yield "simplecss_rule_texts", (sheets[0], NO_LIMIT), MANY
-        yield "simplecss_winners", (*sheets, _ONE_ELEMENT, NO_OWN), 3
-        yield "simplecss_winners_named", (*sheets, _ONE_ELEMENT, NO_OWN, asked), 2
-        yield "simplecss_matches", (*sheets, _ONE_ELEMENT), 1 + MANY
-        matching, one = sizes(list(range(MANY))), buffer_of((b"a",))
-        yield "simplecss_explain", (sheets[0], NO_LIMIT, matching, NO_OWN, *one), 3 * MANY
+        yield "simplecss_query_rules", (*sheets, _ONE_ELEMENT), (9 + 6) * MANY
+        yield "simplecss_query_text", (*sheets, _ONE_ELEMENT), MANY
+        yield "simplecss_query_winners", (*sheets, _ONE_ELEMENT, NO_OWN), 3
+        yield "simplecss_query_winners_named", (*sheets, _ONE_ELEMENT, NO_OWN, asked), 2
+        yield "simplecss_query_matches", (*sheets, _ONE_ELEMENT), 1 + MANY
+        yield "simplecss_query_explained", (*sheets, _ONE_ELEMENT, NO_OWN, asked), 1 + 3 * MANY
     sheets = (sheets_of(many_texts(b"p{" + b"a:b;" * MANY + b"}", 1), none), HTML, NO_LIMIT)
-    yield "simplecss_rules", (sheets[0], NO_LIMIT), 9 + 6 * MANY
-    yield "simplecss_winners", (*sheets, _ONE_ELEMENT, NO_OWN), 3
+    yield "simplecss_query_rules", (*sheets, _ONE_ELEMENT), 9 + 6 * MANY
+    yield "simplecss_query_winners", (*sheets, _ONE_ELEMENT, NO_OWN), 3
     sheets = (sheets_of(many_texts(b"p{a:b}", 1), none), HTML, NO_LIMIT)
-    yield "simplecss_winners", (*sheets, _MANY_ELEMENTS, NO_OWN), 3 * MANY
-    yield "simplecss_winners_named", (*sheets, _MANY_ELEMENTS, NO_OWN, asked), 2 * MANY
-    yield "simplecss_matches", (*sheets, _MANY_ELEMENTS), 2 * MANY
+    yield "simplecss_query_winners", (*sheets, _MANY_ELEMENTS, NO_OWN), 3 * MANY
+    yield "simplecss_query_winners_named", (*sheets, _MANY_ELEMENTS, NO_OWN, asked), 2 * MANY
+    yield "simplecss_query_matches", (*sheets, _MANY_ELEMENTS), 2 * MANY
 
 
 def large_questions() -> Iterator[Tuple[str, Tuple[Any, ...], int]]:
@@ -1560,19 +1916,16 @@ def large_questions() -> Iterator[Tuple[str, Tuple[Any, ...], int]]:
     ) + MANY
     one = (*many_texts(b"p", 1), MODERN, _MANY_ELEMENTS)
     yield "simplecss_match_selectors", one, digits(MANY) + 4 * MANY
-    yield "simplecss_select", (b"p", MODERN, _MANY_ELEMENTS), digits(MANY) + MANY
-    yield "simplecss_select", (listed, MODERN, _ONE_ELEMENT), 2
-    yield "simplecss_select", (b":has(a)", MODERN, _MANY_ELEMENTS), 0
     yield "simplecss_page_select", (_MANY_ELEMENTS, MODERN, b"p", 0, 0, NO_LIMIT), MANY
     yield "simplecss_page_select", (_ONE_ELEMENT, MODERN, listed, 0, 0, 1), 1
     yield "simplecss_page_select", (_MANY_ELEMENTS, MODERN, b":has(a)", 0, 0, 1), 0
     rules, many_declarations = b"p{a:b}" * MANY, b"p{" + b"a:b;" * MANY + b"}"
-    yield "simplecss_read", (rules,), (13 + 9 + 10) * MANY
-    yield "simplecss_read", (many_declarations,), 13 + 9 + 10 * MANY
+    yield "simplecss_sheet_statements", (rules,), (13 + 9 + 10) * MANY
+    yield "simplecss_sheet_statements", (many_declarations,), 13 + 9 + 10 * MANY
     yield "simplecss_declarations", (b"a:b;" * MANY,), 10 * MANY
     imports = sum(len(f"{12 * n} 12 1 1 0 0 0 0 0\na\n") for n in range(MANY))
-    yield "simplecss_imports", (b"@import 'a';" * MANY,), imports
-    yield "simplecss_print", (rules, 0), len(rules)
+    yield "simplecss_sheet_imports", (b"@import 'a';" * MANY,), imports
+    yield "simplecss_sheet_printed", (rules, 0), len(rules)
     empty = sum(len(f"empty rule\t{3 * n}\t{3 * n + 3}\t\n") for n in range(MANY))
     again = sum(len(f"repeated rule\t{3 * n}\t{3 * n + 1}\t\n") for n in range(1, MANY))
     yield "simplecss_lint", (b"a{}" * MANY, 0), empty + again
@@ -1580,6 +1933,8 @@ def large_questions() -> Iterator[Tuple[str, Tuple[Any, ...], int]]:
     yield "simplecss_clean", (b"a:b;" * MANY, policy, 1), len(b"a: b; ") * MANY - 1
     yield "simplecss_clean", (b"p{a:b}" * MANY, policy, 0), len(b".m p {a: b;}\n") * MANY
     yield "simplecss_dropped", (b"b:c;" * MANY, policy, 1), 3 * MANY
+    yield "simplecss_refused_values", (b"top:x;" * MANY, 1), 2 * MANY
+    yield "simplecss_refused_values", (b"a{top:x;" * MANY, 0), 2 * MANY
     unnamed = len(b"default\twindows-1252")
     yield "simplecss_html_encoding", (b"<meta " * MANY, b" " * MANY), unnamed
     yield "simplecss_close", (b"a" * MANY + b"(",), MANY + 2
@@ -1591,17 +1946,17 @@ def large_questions() -> Iterator[Tuple[str, Tuple[Any, ...], int]]:
     pairs = many_texts(b"a", 2 * MANY)
     yield "simplecss_values", (*pairs, MANY, 0, NO_LIMIT), 3 * MANY
     yield "simplecss_tokens", (b"a " * MANY,), 5 * 2 * MANY
-    yield "simplecss_decode", (b"a" * MANY, 0), MANY
-    yield "simplecss_escape", (b"a" * MANY,), MANY
-    yield "simplecss_quote", (b"a" * MANY,), MANY + 2
+    yield "simplecss_spell", (b"a" * MANY, 0), MANY
+    yield "simplecss_spell", (b"a" * MANY, 2), MANY
+    yield "simplecss_spell", (b"a" * MANY, 3), MANY + 2
     yield from large_sheets()
-    yield "simplecss_port_selector", (b"a " * MANY,), len(b"a ") * MANY - 1 + len(b"\t0,0,255\n")
-    port_rules, port_declarations = many_texts(rules, 1), many_texts(many_declarations, 1)
-    for sheet in (port_rules, many_texts(b"p{a:b}")):
+    yield "simplecss_list_text", (b"a " * MANY, PORT), len(b"a ") * MANY - 1
+    for sheet in (many_texts(rules, 1), many_texts(b"p{a:b}")):
         yield "simplecss_port_sheet", (*sheet, NO_LIMIT), len(b"p { a:b; }\n") * MANY
         yield "simplecss_port_match", (*sheet, NO_LIMIT, _ONE_ELEMENT), 3 + digits(MANY) + MANY
-    yield "simplecss_port_style", (*port_rules, NO_LIMIT, _ONE_ELEMENT, b"a"), len(b"1: b\n")
-    yield "simplecss_port_style", (*port_declarations, NO_LIMIT, _ONE_ELEMENT, b"a"), len(b"1: b\n")
+        yield "simplecss_port_styles", (*sheet, NO_LIMIT, _ONE_ELEMENT), len(b"1\n1 1 0\nab\n")
+    sheet = many_texts(many_declarations, 1)
+    yield "simplecss_port_styles", (*sheet, NO_LIMIT, _ONE_ELEMENT), len(b"1\n1 1 0\nab\n")
     skipped = sum(len(f"1 {3 * n + 1} 2 at-rule not supported\n@x\n") for n in range(MANY))
     yield "simplecss_port_skipped", (b"@x;" * MANY,), skipped
 
@@ -1638,8 +1993,32 @@ class Pages(Case):
         front = self.tags + self.heads + self.counts + self.attributes
         self.assertEqual(numbers[: len(front)], front)
         self.assertEqual(strings[:size], self.strings)
-        self.assertEqual(numbers[count - 1], size)
+        self.assertEqual(numbers[count - 3 : count], [size, 0, 0])
         self.assertEqual(numbers[count:], [MARK] * (202 - count))
+
+    def test_sheets(self) -> None:
+        """The numbers end with the sheets that a page names: HTML Standard, sections 4.2.3, 4.2.4 and 4.2.6."""
+        linked = b"<link rel=stylesheet href=a>"
+        rows = {
+            b"<style>b</style><base href=x>": [2, 1, 1, 4],
+            b"<base href=x><style>b</style>" + linked: [1, 2, 2, 12, 3, 13],
+            b"<base>"
+            + linked
+            + b"<link rel='alternate stylesheet' href=a title=t>": [0, 2, 2, 5, 3, 3],
+            b"<link rel=stylesheet title=t href=a><link rel=stylesheet title=u href=a>": [
+                0,
+                2,
+                1,
+                5,
+                2,
+                1,
+            ],
+            b"<style type=text/plain>b</style><link rel=icon href=a><link rel=stylesheet>": [0, 0],
+        }
+        for page, due in rows.items():
+            with self.subTest(page=page):
+                _, count, _, numbers, _ = self.read(page, 200, 100)
+                self.assertEqual(numbers[count - len(due) : count], due)
 
     def test_rooms(self) -> None:
         """With too little room in one of the buffers nothing is written."""
@@ -1694,9 +2073,10 @@ class Large(Case):
         ends = sizes([25 * (n // 3) + (7, 12, 25)[n % 3] for n in range(3 * number)])
         length = sum(len(str(n)) + 1 for n in range(1, number + 1))
         page = Elements([0, 1, 0] * number), strings, ends
-        found = self.ends("simplecss_select", b"element", PORT, page)
+        found = self.ends("simplecss_port_selected", b"element", page)
         self.assertEqual(found, (TOO_SMALL, length))
 
     def test_value(self) -> None:
         page = tree_of((0, b"a", b"class", b"x " * (self.count // 2) + b"y"))
-        self.assertEqual(self.ends("simplecss_select", b".y", PORT, page, room=8), (DONE, 2))
+        found = self.ends("simplecss_port_selected", b".y", page, room=8)
+        self.assertEqual(found, (DONE, 2))

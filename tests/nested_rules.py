@@ -14,7 +14,7 @@ from collections import Counter
 from functools import partial
 from typing import Any, Dict, Iterator, List, NamedTuple, Optional, Sequence, Tuple
 
-from tests.common import Case, browser_answers, count, package, row, rows
+from tests.common import Case, browser_answers, count, in_turns, package, row, rows
 from tests.syntax import fields_of
 
 package()
@@ -458,7 +458,7 @@ class NestedRules(Case):
             due = [(sorted(each), {name for name, _ in each}) for each in answer]
             return rows(repr(case["text"]), found[-len(due) :], due)
 
-        self.against(lambda asked: won(names, asked), cases, question)
+        self.against(in_turns(lambda asked: won(names, asked)), cases, question)
 
     def test_has(self) -> None:
         """Inside `:has()` each `:has()` is false that `&` reaches, as in the browser."""
@@ -474,7 +474,7 @@ class NestedRules(Case):
             mine = [each.value if each else None for each in found]
             yield row(repr(case["text"]), mine, [each[0][1] if each else None for each in answer])
 
-        self.against(lambda asked: won(names, asked), cases, question)
+        self.against(in_turns(lambda asked: won(names, asked)), cases, question)
 
     def test_rows(self) -> None:
         """What `&` stands for, what it counts, and where it is."""

@@ -98,11 +98,39 @@ static_assert(!std::is_copy_constructible_v<simplecss::Page> && !std::is_copy_as
 static_assert(std::is_nothrow_move_constructible_v<simplecss::Page> && std::is_nothrow_move_assignable_v<simplecss::List>);
 static_assert(sizeof(simplecss::Page) == sizeof(void *));
 
+void sheets() {
+    simplecss::Sheet first("a { b : c }"), second("@import 'd';");
+    want("short", first.text(), "a{b:c}");
+    want("lines", first.text(SIMPLECSS_LINES), "a {\n  b: c;\n}\n");
+    want("statements", std::to_string(first.numbers(SIMPLECSS_STATEMENTS).size()), "32");
+    want("imports", second.text(SIMPLECSS_IMPORTS), "0 12 1 1 0 0 0 0 0\nd\n");
+    first = std::move(second);
+    want("moved", first.text(), "@import 'd';");
+    want("another question", thrown([&] { first.numbers(2); }), "1 0 0 refused");
+    want("not UTF-8", thrown([] { simplecss::Sheet("\xff"); }), "5 0 0 not UTF-8");
+}
+
 } // namespace
+
+void queries() {
+    simplecss::Query first(made(), ".x { a: 1 } p { b: 2 } div:has(span) { c: 3 }");
+    simplecss::Query second(std::move(first));
+    want("matches", shown(second.numbers(SIMPLECSS_MATCHES)), "0 0 0 2 0 2 1 0 1 1 2 0 2 0");
+    want("a range", shown(second.numbers(SIMPLECSS_WINNERS, 3, 4)), "2 0 0 2 0");
+    want("texts", second.texts(), "pdiv:has(span).x");
+    const std::size_t ends[] = {1, 2}, counts[] = {1, 1};
+    const simplecss_asked names = {simplecss::detail::bytes("ac"), 2, ends, 2, counts, 2};
+    want("names", shown(second.numbers(SIMPLECSS_WINNERS_NAMED, names, 5, 7)), "5 0 1 0 2 0 5 0");
+    want("another question", thrown([&] { second.numbers(5); }), "1 0 0 refused");
+    want("moved from", thrown([&] { first.numbers(SIMPLECSS_RULES); }), "8 0 0 the object was moved from");
+    want("not UTF-8", thrown([] { simplecss::Query(made(), "\xff"); }), "5 0 0 not UTF-8");
+}
 
 int main() {
     pages();
     lists();
+    sheets();
+    queries();
     std::printf("%d failures\n", failures);
     return failures != 0;
 }

@@ -12,7 +12,7 @@ import tempfile
 from typing import Any, Dict, List, Optional, Sequence, Tuple, Union
 
 from tests.common import Answer, Case, answer, library_path, program, write
-from tests.library_calls import DONE, NO_LIMIT, REFUSED, TOO_SMALL, Tree, buffer_of, call, tree_of
+from tests.library_calls import DONE, NO_LIMIT, TOO_SMALL, Tree, buffer_of, call, tree_of
 from tests.program import USAGE
 
 # An element's name, and the values of its attributes `id` and `class`, if it has them.
@@ -543,10 +543,11 @@ class Library(Case):
             lines = [line.lstrip("\1") for line in tokens]
             items = [line for line in lines if line]
             declarations = sum(line.startswith("Declaration ") for line in items)
-            statuses = [self.asks("selector", front.encode())[0] for front in fronts]
-            self.assertLessEqual(set(statuses), {DONE, REFUSED})
+            words = [program("cssq_cli"), "selector"]
+            statuses = [answer([*words, front]).status for front in fronts]
+            self.assertLessEqual(set(statuses), {0, 1})
             sheets = sum(len(self.printed(front).encode()) for front in fronts)
-            found = [len(items) - declarations, declarations, statuses.count(DONE), sheets]
+            found = [len(items) - declarations, declarations, statuses.count(0), sheets]
             with self.subTest(text=text):
                 self.assertEqual(found, due)
 
@@ -564,12 +565,14 @@ class Library(Case):
         self.assertEqual(rest, "")
         return found
 
-    def wins(self, sheet: str, tree: Tree, name: str) -> str:
-        """The line of the declaration that wins for a name."""
-        arguments = (*buffer_of([sheet.encode()]), NO_LIMIT, tree, name.encode())
-        status, out = self.asks("style", *arguments)
-        self.assertEqual(status, DONE)
-        return out
+    def wins(self, sheet: str, name: str) -> str:
+        """The line of the declaration that wins for a name on one element `a`, as the program writes it."""
+        with tempfile.TemporaryDirectory() as folder:
+            write(os.path.join(folder, "a.css"), sheet)
+            write(os.path.join(folder, "a.tree"), "0\ta\n")
+            found = answer([program("cssq_cli"), "style", "a.css", "a.tree", name], cwd=folder)
+        self.assertEqual(found.status, 0, found.err)
+        return found.out
 
     def test_winners(self) -> None:
         """All that win, which are the same by their names, and what wins for the name `c`."""
@@ -581,7 +584,7 @@ class Library(Case):
                 found = [f"{name}:{value}" + "!" * important for name, value, important in every]
                 self.assertEqual(" ".join(found), due)
                 for name, line in {"c": "1:", **lines}.items():
-                    self.assertEqual(self.wins(sheet, tree, name), line + "\n")
+                    self.assertEqual(self.wins(sheet, name), line + "\n")
 
     def test_many_winners(self) -> None:
         """Two rules, each with a declaration for each of many names, whose values are the number of the

@@ -63,12 +63,12 @@ NO_LIMIT = 2**64 - 1
 ROOM = 1 << 20
 # The calls of compare.c that write numbers.
 OF_NUMBERS = (
-    "simplecss_read",
+    *library_calls.IN_NUMBERS,
     "simplecss_declarations",
     "simplecss_list_numbers",
     "simplecss_page_select",
-    "simplecss_contents",
     "simplecss_dropped",
+    "simplecss_refused_values",
 )
 # The elements of the tree of compare.rs.
 PAGE: Sequence[Tuple[int, str, List[Tuple[str, str]]]] = [
@@ -258,12 +258,14 @@ class Library:
     def call(self, name: str, *arguments: Any) -> bytes:
         """What a call writes, or nothing where it refuses a selector."""
         name = "simplecss_" + name
-        tail = (ctypes.byref(self.fault),) if name in library_calls.WITH_TREE else ()
-        limit = [library_calls.SIZE(NO_LIMIT)] if name in library_calls.LIMITED else []
+        asked = name in library_calls.PORT_ASKED
+        tail = (ctypes.byref(self.fault),) if asked or name in library_calls.WITH_TREE else ()
+        limit = [library_calls.SIZE(NO_LIMIT)] if asked or name in library_calls.LIMITED else []
         size = ctypes.sizeof(library_calls.SIZE) if name in OF_NUMBERS else 1
         place = (self.room, library_calls.SIZE(ROOM // size), ctypes.byref(self.length))
         with library_calls.given(self.library, name, arguments, self.fault) as (made, words):
-            status = getattr(self.library, name)(*words, *limit, *place, *tail)
+            called = getattr(self.library, library_calls.called(name))
+            status = called(*words, *limit, *place, *tail)
         status = library_calls.answered_status(made, status)
         assert status in (library_calls.DONE, library_calls.REFUSED), status
         written = size * self.length.value
@@ -272,25 +274,23 @@ class Library:
     def modern_answers(self, text: bytes) -> List[bytes]:
         """The answers of compare.c after those of `answers`."""
         texts: List[Any] = [
-            ("read", text),
+            ("sheet_statements", text),
             ("declarations", text),
-            ("imports", text),
-            ("contents", text),
+            ("sheet_imports", text),
+            ("sheet_contents", text),
             ("lint", text, 1),
+            ("refused_values", text, 0),
             ("clean", text, library_calls.COMPARED, 0),
             ("clean", text, library_calls.COMPARED, 1),
             ("dropped", text, library_calls.COMPARED, 0),
             ("html_encoding", text, text),
             ("close", text),
-            ("print", text, 0),
-            ("print", text, 1),
-            ("escape", text),
-            ("quote", text),
-            ("decode", text, 1),
+            ("sheet_printed", text, 0),
+            ("sheet_printed", text, 1),
+            *(("spell", text, each) for each in (2, 3, 1)),
             ("list_numbers", text, library_calls.MODERN),
             ("list_text", text, library_calls.MODERN),
             ("refusal", text, library_calls.MODERN, self.page),
-            ("select", text, library_calls.MODERN, self.page),
             ("page_select", self.page, library_calls.MODERN, text, 0, 0, NO_LIMIT),
             (
                 "match_selectors",
@@ -306,13 +306,13 @@ class Library:
         sheet = (*library_calls.buffer_of([text]), NO_LIMIT)
         texts: List[Any] = [
             ("port_sheet", *sheet),
-            ("port_selector", text),
             ("port_skipped", text),
             ("list_numbers", text, library_calls.PORT),
             ("list_text", text, library_calls.PORT),
             ("port_rules", *sheet),
             ("port_match", *sheet, self.page),
             ("port_styles", *sheet, self.page),
+            ("port_selected", text, self.page),
         ]
         return [self.call(*it) for it in texts]
 
@@ -404,12 +404,20 @@ def winners_as_text(answer: bytes) -> bytes:
     return found
 
 
-def as_text(answers: Sequence[bytes], tokens: bytes) -> List[bytes]:
+def selector_as_text(text: bytes, numbers: bytes, printed: bytes) -> bytes:
+    """The selector that a text is, in the form of compare.rs."""
+    if not printed or set(text) & set(b",{/"):
+        return b""
+    counts = struct.unpack_from("<3Q", numbers, 3 * 8)
+    return b"%s\t%d,%d,%d\n" % (printed, *counts)
+
+
+def as_text(text: bytes, answers: Sequence[bytes], tokens: bytes) -> List[bytes]:
     """The same answers in the form of compare.rs."""
-    sheet, selector, skipped, _, _, _, matches, styles = answers
+    sheet, skipped, numbers, printed, _, matches, styles, _ = answers
     return [
         sheet,
-        selector,
+        selector_as_text(text, numbers, printed),
         skipped_as_text(skipped),
         matches,
         winners_as_text(styles),
@@ -673,7 +681,8 @@ class Crate(Release):
         done = self.cargo(
             ["run", "-q", "--release"], project, "the comparison", input=framed(texts)
         )
-        due = [as_text(*it) for it in zip(wanted, tokens_of(program("tests_driver"), texts))]
+        tokens = tokens_of(program("tests_driver"), texts)
+        due = [as_text(*it) for it in zip(texts, wanted, tokens)]
         self.compare("the Rust crate and the proved sources", texts, due, parts_of(done.stdout, 6))
 
     def test_speed(self) -> None:
@@ -843,6 +852,8 @@ endforeach()
 """
 # What `examples/c/page.c` prints.
 PRINTED = b"1:\n2: 1 2\n3:\n"
+# What `examples/c/unused.c` does.
+UNUSED = b"p\nol li\n& b\n"
 
 
 class Program(Release):
@@ -1070,6 +1081,11 @@ PAGES = [
         "<svg xmlns='http://www.w3.org/2000/svg'><input checked=''/></svg></body></html>",
     ),
 ]
+# A document in XML, with names that differ in case, prefixes and a text.
+XML_PAGE = """<svg xmlns="http://www.w3.org/2000/svg" xmlns:l="http://www.w3.org/1999/xlink">
+<g class="note" id="x"/><G><!-- c --><l:g l:href="#x">&lt;</l:g></G>
+<a href="b" class="a b"><![CDATA[<g>]]></a></svg>
+"""
 # fmt: off
 SELECTORS = [
     "*", "p", "P", ".note", ".NOTE", "#x", "#X", "[type=text]", "[class~=b]", "a:link",
@@ -1320,6 +1336,48 @@ true
 true
 99 99 99 0 1
 """
+EDITS = """
+import css, { EditError, StyleSheet, edit, placeOf } from 'simplecss';
+const text = '/* \\u{1f600} */ a, b { c: d !important; e: f } /**/ @media x { g { h: i } }\\n@font-face { src: url(j) }';
+const { rules, atRules } = new StyleSheet(text), [a] = rules, [c, e] = a.declarations.map(placeOf), g = placeOf(rules.at(-1));
+const font = placeOf(atRules[0]), at = text.indexOf('d !'), head = text.indexOf('a, b');
+for (const edits of [
+  [], [{ ...c, part: 'contents', text: '' }], [{ start: at, end: at + 1, part: 'value', text: 'red' }],
+  [{ ...font, part: 'statements', text: 'k { l: m }' }, { ...g, part: 'statements', text: '' }],
+  [{ start: head, end: head + 4, part: 'prelude', text: '.n' }, { start: font.end, end: font.end, part: 'statements', text: ' o {}' }],
+  [{ start: at, end: at + 1, part: 'value', text: 'd; p: q' }], [{ ...e, part: 'contents', text: '} r {' }],
+  [{ ...g, part: 'statements', text: 'x{}' }, { start: head, end: head + 4, part: 'prelude', text: '{' }],
+]) {
+  const given = edits.map(({ start, end, part, text }) => ({ start, end, part, text }));
+  try {
+    console.log(edit(text, given).replace(text.slice(0, head), ''));
+  } catch (error) {
+    console.log(error instanceof EditError, error.index, error.text, error.start - head);
+  }
+}
+for (const wrong of [{ start: 0, end: 1, part: 'x', text: '' }, { start: 0, end: 99.5, part: 'value', text: '' }, { from: 1 }]) {
+  try { edit(text, [wrong]); } catch (error) { console.log(error.name, error.message); }
+}
+console.log(placeOf(rules[0]).row, placeOf(rules[0]).column, placeOf({}), placeOf(css.declarations(' a: b')[0]).start);
+"""
+EDITED = """a, b { c: d !important; e: f } /**/ @media x { g { h: i } }
+@font-face { src: url(j) }
+a, b { ; e: f } /**/ @media x { g { h: i } }
+@font-face { src: url(j) }
+a, b { c: red !important; e: f } /**/ @media x { g { h: i } }
+@font-face { src: url(j) }
+a, b { c: d !important; e: f } /**/ @media x {  }
+k { l: m }
+.n { c: d !important; e: f } /**/ @media x { g { h: i } }
+@font-face { src: url(j) } o {}
+true 0 d; p: q 10
+true 0 } r { 24
+true 1 { 0
+TypeError a part is prelude, value, block, statements, contents
+TypeError an edit has a start and an end
+TypeError unknown option: from
+1 9 null 1
+"""
 OPTIONS = """
 import css, { Selector, StyleSheet, Tree } from 'simplecss';
 const tree = new Tree([{ name: 'a' }]), sheet = new StyleSheet('a{b:c}');
@@ -1394,6 +1452,12 @@ TypeError undefined the grammar of the Rust crate has no namespaces
 """
 
 
+# A sheet that is explained, in which each criterion decides once.
+EXPLAINED = """@layer base { li { color: red !important } }
+@layer x { @layer { li, p { color: blue; background: red } } }
+body { color: black } li { color: green } li { color: lime } :is(li) a { color: teal }
+p { color: revert } @media print { li { background-color: white } }
+"""
 # What is found of pages that are texts, and of values; and what is printed of that.
 ON_TEXTS = """
 import css, { StyleSheet, matches, select, styles } from 'simplecss';
@@ -1408,6 +1472,7 @@ const values = [['color', 'red'], ['color', 'reed'], ['color', 'f()'], ['a:b', '
 console.log(values.map(each => css.takesValue(...each)).join());
 for (const call of [
   () => select('page.html', 'p'), () => css.takesValue('color', 3), () => new StyleSheet('', { grammar: 'simplecss' }).unused(page),
+  () => new StyleSheet('', { grammar: 'simplecss' }).explain(page, 'top'), () => sheet.explain(page, 'top', { mediums: 'tv' }),
 ]) {
   try { console.log(call()); } catch (error) { console.log(error.name, error.message); }
 }
@@ -1421,6 +1486,8 @@ true,false,,,
 TypeError 'page.html' is the name of a page, not its text
 TypeError a text is expected, not number
 TypeError a sheet of the modern grammar is expected
+TypeError a sheet of the modern grammar is expected
+TypeError unknown option: mediums
 """
 
 
@@ -1475,7 +1542,7 @@ class Npm(Release):
 
     IS_PROVED = "true"
     # The most bytes, compressed, of what selects elements and finds what wins.
-    MOST = 450_000
+    MOST = 475_000
 
     def unpacked(self) -> str:
         """The folder of the package, where node finds it by its name."""
@@ -1528,6 +1595,25 @@ class Npm(Release):
 
         self.against(answers, tables.asked_of("npm"), tables.answered)
 
+    def test_places(self) -> None:
+        """Elements of pages and of documents have what they have in the Python package."""
+        from tests import checkout
+
+        pages: List[Tuple[Optional[str], str]] = []
+        pages += [(None, text) for text, _ in checkout.html_pages(count(100))]
+        pages += [(context, text) for context in ("td", "tr", "svg") for _, text in pages[:30]]
+        pages += [
+            ("xml", XML_PAGE),
+            ("xml", "<a xmlns:p='é' p:b='1' c = \"é\" p:c='2'>é<p:d/></a >"),
+        ]
+        words = ["node", os.path.join(TOP, "tests", "release", "places.mjs"), self.unpacked()]
+        done = self.works(words, "places.mjs", input=json.dumps(pages).encode())
+        due = [json.loads(json.dumps(elements_in_python(*each))) for each in pages]
+        shown = [text.encode() for _, text in pages]
+        self.compare(
+            "places in the npm and the Python package", shown, due, json.loads(done.stdout)
+        )
+
     def test_lint(self) -> None:
         """The commands `lint` of both packages print the same."""
         cli, paths = os.path.join(self.unpacked(), "cli.mjs"), []
@@ -1559,12 +1645,19 @@ class Npm(Release):
             (["lint", "--grammar", "today", bad], (2, "")),
             (["lint", "--x", bad], (2, "")),
             (["lint", "-o", "x", bad], (2, "")),
+            (["lint", "--select", "unknown", bad], (0, "")),
+            (["lint", "--select", "invalid", bad], (1, line)),
+            (["lint", "--explain", "nothing"], (2, "")),
+            (["lint", "--explain", "empty-rule", bad], (2, "")),
+            (["completions", "csh"], (2, "")),
             (["select", bad], (2, "")),
             (["select", "--count", "--quiet", "a", bad], (2, "")),
             (["match", bad], (2, "")),
             (["match", "--width", "-1", good, bad], (2, "")),
             (["match", "--media", "tv", good, bad], (2, "")),
             (["style", good, "top"], (2, "")),
+            (["explain", "a", "top", bad], (2, "")),
+            (["explain", "--sheet", good, "a", "top"], (2, "")),
             (["match", os.path.join(self.folder, "page.svg"), good], (2, "")),
             (["match", good, os.path.join(self.folder, "page.svg")], (4, "")),
             (["unused", "--grammar", "simplecss", good, bad], (2, "")),
@@ -1608,6 +1701,7 @@ class Npm(Release):
         cli = os.path.join(self.unpacked(), "cli.mjs")
         environment = {**os.environ, "PYTHONPATH": os.path.join(TOP, "python", "src")}
         text = "p, a:hover { color: red; top: 0 }\n@import 'x'; é { margin: u\\72l(x) }"
+        text += "@layer a { p { color: red } } @supports (top: 0) { p { color: red } }"
         path = write(os.path.join(self.folder, "a.css"), text)
         kept = write(os.path.join(self.folder, "b.css"), ".m p {color: red;}\n")
         out = os.path.join(self.folder, "out.css")
@@ -1615,6 +1709,19 @@ class Npm(Release):
             ["--scope", ".m", path],
             ["--scope", ".m", "--policy", "comment", "--report", path],
             ["--scope", ".m", "--json", path],
+            ["--scope", ".m", "--add", "TOP", "--limit", "top=0,5", "--prefix", "q-", path],
+            ["--scope", ".m", "--add", "top", "--remove", "Color", "--limit", "top=1,2", path],
+            [
+                "--scope",
+                ".m",
+                "--at-rule",
+                "layer",
+                "--at-rule",
+                "supports",
+                "--prefix",
+                "q-",
+                path,
+            ],
             ["--style", path],
             ["--scope", ".m", "-o", out, path],
             ["--scope", ".m", "--check", kept],
@@ -1773,12 +1880,28 @@ class Npm(Release):
             for number in range(2)
         )
         sheet = write(os.path.join(self.folder, "a.css"), USED)
+        explained = write(os.path.join(self.folder, "b.css"), EXPLAINED)
         missing = os.path.join(self.folder, "none.html")
+        drawing = write(os.path.join(self.folder, "a.svg"), XML_PAGE)
+        broken = write(os.path.join(self.folder, "b.xhtml"), "<p>\n</P>")
         rows = [
+            *(["select", each, drawing, page] for each in ("g, G", "[href]", ":root > *")),
+            *(
+                ["style", sheet, drawing, "color"],
+                ["unused", sheet, drawing],
+                ["select", "p", broken],
+            ),
             *(["select", each, page, other] for each in SELECTORS),
             *(["match", sheet, page, other], ["style", sheet, page, other, "COLOR"]),
             *(["match", "--media", "print", sheet, page], ["match", "--width", "400", sheet, page]),
             *(["unused", sheet, page], ["unused", sheet, page, other]),
+            *(
+                ["explain", "--sheet", explained, "--media", media, "li, p, ul, a", name, page]
+                for name in ("color", "background-color")
+                for media in ("screen", "print")
+            ),
+            ["explain", "--sheet", explained, "none", "color", page],
+            ["explain", "--sheet", missing, "li", "color", page],
             *(["select", "--count", "li", page], ["select", "--count", "li", page, other]),
             *(["select", "--attr", "class", "*", page], ["select", "--quiet", "none", page]),
             *(["select", "--quiet", "li", page], ["select", "a >", page], ["select", "a", missing]),
@@ -1838,6 +1961,10 @@ class Npm(Release):
         self.unpacked()
         self.assertEqual(self.program(KEPT, "--expose-gc"), KEPT_PRINTED)
 
+    def test_edits(self) -> None:
+        self.unpacked()
+        self.assertEqual(self.program(EDITS), EDITED)
+
     def test_options(self) -> None:
         self.unpacked()
         self.assertEqual(self.program(OPTIONS), OPTIONS_PRINTED)
@@ -1883,6 +2010,21 @@ def items_of_page() -> List[Dict[str, Any]]:
         items.append({"name": name, "attributes": dict(pairs), "parent": parent})
         opened.append(index)
     return items
+
+
+def elements_in_python(context: Optional[str], text: str) -> List[Any]:
+    """What the elements of a page have in the Python package, as places.mjs prints it."""
+    package()
+    from simplecss import Tree
+
+    tree = Tree.from_xml(text) if context == "xml" else Tree.from_html(text, context=context)
+    return [
+        [
+            *(each.name, each.namespace, each.is_drawn, each.text, each.start_tag, each.end_tag),
+            sorted([name, *span] for name, span in each.attribute_places.items()),
+        ]
+        for each in tree
+    ]
 
 
 def python_answers(texts: Sequence[str]) -> List[Any]:
@@ -1932,6 +2074,7 @@ def answers_to(text: str, tree: Any, grammar: str) -> List[Any]:
         simplecss.declarations(text),
         simplecss.minify(text),
         simplecss.prettify(text),
+        places_in(sheet),
         sheet.rules,
         sheet.unsupported,
         sheet.at_rules,
@@ -1939,12 +2082,25 @@ def answers_to(text: str, tree: Any, grammar: str) -> List[Any]:
         sheet.match(tree),
         sheet.match(tree, media=simplecss.Device(width=375, type="print", dark=True)),
         sheet.match(tree, media=simplecss.Device(**DEVICE)),
-        sheet.styles(tree, media=lambda query: len(query) % 2 == 0),
+        sheet.styles(tree, media=lambda query: len(query) % 2 == 0, any_value=True),
         sheet.style(tree, "color"),
         tried(lambda: [it.index for it in tree.select(text, grammar=grammar)]),
         tried(lambda: shown_selector(simplecss.Selector(text, grammar=grammar), tree)),
         tried(lambda: [index_of(it.closest(text, grammar=grammar)) for it in tree]),
     ]
+
+
+def places_in(sheet: Any) -> List[Any]:
+    """Where the rules of a sheet and their declarations are, and then its at-rules."""
+
+    def place_of(one: Any) -> Any:
+        return one.place and (one.place.source, *one.place[2:])
+
+    rules = [
+        [place_of(rule), *map(place_of, rule.declarations)]
+        for rule in (*sheet.rules, *sheet.unsupported)
+    ]
+    return [*rules, *map(place_of, sheet.at_rules)]
 
 
 def tried(call: Callable[[], Any]) -> Any:

@@ -52,11 +52,22 @@ int main(int count, char **words) {
     sheets.texts_len = end;
     sheets.ends = &end;
     sheets.ends_count = 1;
-    if (!strcmp(words[1], "select"))
-        return (int)simplecss_select(TEXT(words[4]), SIMPLECSS_HTML, &tree, MOST, (uint8_t *)numbers, room, &len, &fault);
-    if (!strcmp(words[1], "matches"))
-        return (int)simplecss_matches(&sheets, SIMPLECSS_HTML, MOST, &tree, MOST, numbers, room, &len, &fault);
-    if (!strcmp(words[1], "winners"))
-        return (int)simplecss_winners(&sheets, SIMPLECSS_HTML, MOST, &tree, &own, MOST, numbers, room, &len, &fault);
-    return 100;
+    if (!strcmp(words[1], "select")) {
+        simplecss_kept_page page = {0};
+        uint32_t made = simplecss_page_new(&tree, SIMPLECSS_HTML, &page, &fault);
+        if (made == SIMPLECSS_DONE)
+            made = simplecss_page_select(&page, TEXT(words[4]), 0, 0, MOST, MOST, numbers, room, &len);
+        simplecss_page_free(&page);
+        return (int)made;
+    }
+    size_t asked = !strcmp(words[1], "matches") ? SIMPLECSS_MATCHES : SIMPLECSS_WINNERS;
+    if (asked == SIMPLECSS_WINNERS && strcmp(words[1], "winners"))
+        return 100;
+    simplecss_kept_query query = {0};
+    simplecss_asked names = {0};
+    uint32_t status = simplecss_query_new(&tree, SIMPLECSS_HTML, &sheets, MOST, &own, &query, &fault);
+    if (status == SIMPLECSS_DONE)
+        status = simplecss_query_numbers(&query, asked, &names, 0, MOST, MOST, numbers, room, &len);
+    simplecss_query_free(&query);
+    return (int)status;
 }

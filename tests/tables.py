@@ -189,15 +189,18 @@ class InC:
     def grammar(self, page: str) -> int:
         return HTML if "html" in TABLE["pages"][page] else MODERN
 
+    def selected(self, page: Any, grammar: int, selectors: str) -> str:
+        """The indices of the elements of a page that a list of selectors matches."""
+        words = page, grammar, selectors.encode(), 0, 0, NO_LIMIT
+        return " ".join(str(it - 1) for it in self.numbers("page_select", *words) or ())
+
     def select(self, page: str, selectors: str) -> str:
-        words = selectors.encode(), self.grammar(page), elements_of(page)
-        return " ".join(str(int(it) - 1) for it in (self.text("select", *words) or "").split())
+        return self.selected(elements_of(page), self.grammar(page), selectors)
 
     any_case = select
 
     def namespaces(self, page: str, prefixes: str, selectors: str) -> str:
-        words = selectors.encode(), MODERN, elements_of(page, prefixes)
-        return " ".join(str(int(it) - 1) for it in (self.text("select", *words) or "").split())
+        return self.selected(elements_of(page, prefixes), MODERN, selectors)
 
     def cleaned(self, scope: str, policy: str, text: str, form: int) -> str:
         """What a policy of the library keeps of a text, and the reasons of what it drops."""
@@ -232,6 +235,13 @@ class InC:
         return f"{name}: {self.text('close', value)}{' !important' * important}"
 
     def styles(self, page: str, device: str, sheet: str) -> str:
+        taken = bytearray(sheet.encode())
+        places = self.numbers("refused_values", bytes(taken), 0) or []
+        for start, end in zip(places[::2], places[1::2]):
+            taken[start:end] = b" " * (end - start)
+        return self.any_value(page, device, taken.decode())
+
+    def any_value(self, page: str, device: str, sheet: str) -> str:
         text = sheet.encode()
         held = [
             it for it in re.findall(r"@media ([^{]*) \{", sheet) if self.media(it, device) == "true"
@@ -239,13 +249,13 @@ class InC:
         groups = buffer_of([word.encode() for it in held for word in ("media", it)])
         sheets = sheets_of(buffer_of((text,)), groups)
         rules: List[List[str]] = []
-        numbers = iter(self.numbers("rules", sheets, NO_LIMIT) or ())
+        words = sheets, self.grammar(page), NO_LIMIT, elements_of(page), NO_OWN
+        numbers = iter(self.numbers("query_rules", *words) or ())
         for _ in numbers:
             *_, number = (next(numbers) for _ in range(8))
             places = [[next(numbers) for _ in range(6)] for _ in range(number)]
             rules.append([self.declared(text, place[:5]) for place in places])
-        words = sheets, self.grammar(page), NO_LIMIT, elements_of(page), NO_OWN
-        winners, lines = iter(self.numbers("winners", *words) or ()), []
+        winners, lines = iter(self.numbers("query_winners", *words) or ()), []
         for number in winners:
             won = [(next(winners), next(winners)) for _ in range(number)]
             lines.append("; ".join(rules[rule][at] for rule, at in won))
@@ -264,16 +274,16 @@ class InC:
         return "; ".join(found)
 
     def name(self, text: str) -> str:
-        return self.text("decode", text.encode(), 0) or ""
+        return self.text("spell", text.encode(), 0) or ""
 
     def longhands(self, name: str) -> str:
-        return self.text("longhands", name.lower().encode()) or ""
+        return self.text("property", name.lower().encode(), 0) or ""
 
     def shorthands(self, name: str) -> str:
-        return " ".join((self.text("shorthands", name.lower().encode()) or "").split())
+        return " ".join((self.text("property", name.lower().encode(), 1) or "").split())
 
     def inherited(self, name: str) -> str:
-        return self.text("inherited", name.lower().encode()) or "refused"
+        return self.text("property", name.lower().encode(), 3) or "refused"
 
     def valid(self, value: str) -> str:
         return self.text("valid_value", value.encode()) or "refused"
@@ -294,17 +304,17 @@ class InC:
         return json.dumps(values, ensure_ascii=False, separators=(",", ":"))
 
     def escape(self, name: str) -> str:
-        return self.text("escape", name.encode()) or ""
+        return self.text("spell", name.encode(), 2) or ""
 
     def quote(self, text: str) -> str:
-        return self.text("quote", text.encode()) or ""
+        return self.text("spell", text.encode(), 3) or ""
 
     def minify(self, sheet: str) -> str:
         """A text that is no shorter, or that does not read back, stays."""
-        return self.text("print", sheet.encode(), 0) or ""
+        return self.text("sheet_printed", sheet.encode(), 0) or ""
 
     def prettify(self, sheet: str) -> str:
-        return self.text("print", sheet.encode(), 1) or ""
+        return self.text("sheet_printed", sheet.encode(), 1) or ""
 
 
 class Cases(Case):

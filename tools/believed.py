@@ -3,8 +3,12 @@
 with their lines. Blank lines, comments and imports are not counted, nor is what the standard library and the types of
 the code define.
 
-  tools/believed.py                       those of the calls and the law on what wins
+  tools/believed.py                       those of the calls and the laws on what wins
   tools/believed.py CRATE FILE FUNCTION   those of a function's clauses, with each crate's part
+  tools/believed.py CRATE FILE NAME       those of a definition, where the file is one of specs/
+
+Of `query_law` its conclusion is counted, `AreWon`: what a call ensures is its premise, which the prover has checked, so
+that no one needs to believe it. What conditions add on a device is counted apart.
 """
 
 from __future__ import annotations
@@ -13,27 +17,39 @@ import collections
 import functools
 import re
 import sys
-from collections.abc import Iterator
+from collections.abc import Iterable, Iterator
 from pathlib import Path
-from typing import NamedTuple
+from typing import List, NamedTuple, Union
 
 CRATES = Path(__file__).resolve().parent.parent / "crates"
-# The functions whose clauses say which declaration wins.
+# The functions whose clauses say which declaration wins, and the definition of what a call writes.
 HEADLINE = (
-    ("simplecss_c", "exports.rt", "simplecss_winners"),
+    ("css_laws", "Queries.antt", "AreWon"),
+    ("simplecss_c", "queries.rt", "simplecss_query_numbers"),
     ("css_laws", "headline.rt", "winners_law"),
     ("css_laws", "devices.rt", "device_law"),
     ("css_styles", "styles.rt", "winners"),
     ("css_styles", "style_rules.rt", "read"),
     ("css_tree", "marking.rt", "mark"),
 )
+# What the same rests on, on a device.
+CONDITIONS = (("css_laws", "Devices.antt", "holds_on"), ("css_laws", "Devices.antt", "AreAsked"))
 USE = re.compile(r"^ *(?:ghost )?(?:pub )?use (Rattle\.[^\s{;]+?)(?:\.\{([^}]*)\}| as (\S+?))?;?$")
 STARTS = re.compile(
     r"^((?:(?:abbrev|unfoldable|pub) )*)(?:(?:record|data) (\S+)|(mutual)$|([^\s:(){}]+) : )"
 )
 INNER = re.compile(r"^ +(?:pub )?([^\s:(){}]+) : ", re.MULTILINE)
 MODULE = re.compile(r"^module _")
-WORD = re.compile(r"[^\s(){}\[\],;]+")
+RECORD = re.compile(r"(?:abbrev |pub )*record ")
+PARTED = re.compile(r"(?:abbrev |pub )*(?:record|data|mutual)\b")
+# Where an equation, a signature or a field begins: others go on with one before them.
+OUTER_LINE = re.compile(r"\n(?=[^ })])")
+INNER_LINE = re.compile(r"\n(?= ? ?[^ })])")
+TYPE = re.compile(r"(?:abbrev |pub )*(?:record|data) ")
+TOKEN = re.compile(r"\"[^\"]*\"|[(){}\[\]]|;|[^\s(){}\[\],;]+")
+OPENING, CLOSING = "([{", ")]}"
+# Words, and the same in brackets.
+Tree = List[Union[str, "Tree"]]
 
 
 class Unit(NamedTuple):
@@ -137,33 +153,133 @@ def found_in(module: str, name: str) -> Unit | None:
     return units.get(inner.split(".")[0]) if inner else units.get(name)
 
 
-def named_in(text: str, file: File) -> Iterator[Unit]:
-    """The definitions that a text names."""
-    for word in set(WORD.findall(text)):
-        first, _, rest = word.partition(".")
-        if first in file.units:
-            yield file.units[first]
-        elif first in file.imports:
-            module, name = file.imports[first]
-            unit = found_in(module, name or rest.partition(".")[0])
-            if unit:
-                yield unit
+def unit_of(word: str, file: File) -> Unit | None:
+    """The definition that a word of a file names."""
+    first, _, rest = word.partition(".")
+    if first in file.units:
+        return file.units[first]
+    module, name = file.imports.get(first, ("", ""))
+    return found_in(module, name or rest.partition(".")[0])
+
+
+def is_variant(word: str, file: File) -> bool:
+    """Whether a word of a pattern is a variant of a type: another names what it stands for."""
+    unit = unit_of(word, file)
+    name = file.imports.get(word, ("", word))[1]
+    return "." in word or bool(
+        unit
+        and "data " in unit.text
+        and re.search(rf"^ +{re.escape(name)} : ", unit.text, re.MULTILINE)
+    )
+
+
+def tree_of(text: str) -> Tree:
+    """The tokens of a text, with those in a pair of brackets in a tree of their own, after the first bracket."""
+    open_trees: list[Tree] = [[]]
+    for token in TOKEN.findall(text):
+        if token in CLOSING and len(open_trees) > 1:
+            open_trees.pop()
+        elif token not in CLOSING:
+            inner: Tree = [token]
+            open_trees[-1].append(inner if token in OPENING else token)
+            if token in OPENING:
+                open_trees.append(inner)
+    return open_trees[0]
+
+
+def words_in(tree: Tree) -> Iterator[str]:
+    """All words of a tree."""
+    for item in tree:
+        if isinstance(item, str):
+            yield item
+        else:
+            yield from words_in(item)
+
+
+def before(sign: str, tree: Tree) -> Tree:
+    """What is before the first of a sign, which is all if there is none."""
+    return tree[: tree.index(sign)] if sign in tree else tree
+
+
+def after(sign: str, tree: Tree) -> Tree:
+    """What is after the first of a sign, or all if there is none."""
+    return tree[tree.index(sign) + 1 :] if sign in tree else tree
+
+
+def bound_by(tree: Tree) -> set[str]:
+    """The names to which a tree in brackets gives a type."""
+    return set(words_in(before(":", tree))) if ":" in tree else set()
+
+
+def terms_in(tree: Tree, is_record: bool) -> Iterator[Tree]:
+    """The terms of a tree in brackets: the values of a record's fields, the type of names, or all of it."""
+    sign = "=" if is_record else ":"
+    while is_record and ";" in tree:
+        field, tree = before(";", tree), tree[tree.index(";") + 1 :]
+        yield after(sign, field)
+    yield after(sign, tree)
+
+
+def free_in(tree: Tree, bound: set[str]) -> Iterator[str]:
+    """The words of a term that nothing in it binds: no parameter of a function, and no `let`."""
+    bound = set(bound)
+    binding = ""
+    for place, item in enumerate(tree):
+        if isinstance(item, list):
+            for term in terms_in(item, tree[max(0, place - 1)] == "record"):
+                yield from free_in(term, bound)
+            bound |= bound_by(item)
+        elif item in ("λ", "let"):
+            binding = item
+        elif binding:
+            bound.add(item.rstrip("."))
+            binding = "" if item == "=" or binding == "λ" and item.endswith(".") else binding
+        elif item.partition(".")[0] not in bound:
+            yield item
+
+
+def free_words(text: str, file: File) -> Iterator[str]:
+    """The words of a definition that it does not bind, an equation, a signature or a field at a time."""
+    line = INNER_LINE if PARTED.match(text) else OUTER_LINE
+    clauses = [tree_of(clause) for clause in line.split(text)]
+    shared: set[str] = set()
+    if TYPE.match(text):
+        shared.update(*(bound_by(item) for item in clauses[0] if isinstance(item, list)))
+    for tree in clauses:
+        left = before("=", tree)
+        if ":" not in left and len(left) < len(tree):
+            variants = {word for word in words_in(left) if is_variant(word, file)}
+            yield from variants
+            yield from free_in(tree[len(left) :], shared | (set(words_in(left)) - variants))
+        else:
+            named = [item for item in before(":", tree) if isinstance(item, list)]
+            yield from free_in([*named, *after(":", tree)], shared)
+            shared |= set(words_in(tree[:2])) if RECORD.match(text) else set()
+
+
+def named_in(words: Iterable[str], file: File) -> Iterator[Unit]:
+    """The definitions that words of a file name."""
+    return (unit for word in set(words) if (unit := unit_of(word, file)))
 
 
 def believed(text: str, file: File) -> set[Unit]:
     """The definitions that a text rests on."""
     found: set[Unit] = set()
-    waiting = list(named_in(text, file))
+    waiting = list(named_in(words_in(tree_of(text)), file))
     while waiting:
         unit = waiting.pop()
         if unit not in found:
             found.add(unit)
-            waiting += named_in(unit.text, read_file(unit.path))
+            of_unit = read_file(unit.path)
+            waiting += named_in(free_words(unit.text, of_unit), of_unit)
     return found
 
 
 def clauses_of(crate: str, name: str, function: str) -> set[Unit]:
-    """What the clauses of a function of a file rest on."""
+    """What the clauses of a function of a file rest on, or a definition of one of specs/."""
+    if name.endswith(".antt"):
+        module = f"Rattle.{crate}.specs." + name[: -len(".antt")].replace("/", ".")
+        return believed(function, File({}, {function: (module, function)}))
     text = (CRATES / crate / "src" / name).read_text(encoding="utf-8")
     head = re.search(rf"fn {function}\b.*?^ *\{{", text, re.DOTALL | re.MULTILINE)
     if not head:
@@ -195,6 +311,9 @@ def main(arguments: list[str]) -> int:
         print(f"{len(units):6,} {lines_of(units):7,}  {crate}::{function}")
         if arguments:
             print_parts(units)
+    if not arguments:
+        more = set().union(*(clauses_of(*it) for it in CONDITIONS)) - clauses_of(*HEADLINE[0])
+        print(f"{len(more):6,} {lines_of(more):7,}  more by conditions, on a device")
     return 0
 
 

@@ -32,17 +32,26 @@ MAKES = {
     "css_explain": "and by what others lose",
     "css_values": "var(), shorthands",
     "css_lint": "mistakes in sheets",
+    "clean_values": "urls answered, prefixes",
     "css_clean": "strangers' CSS, kept safe",
     "clean_calls": "calls: cleaning",
     "css_tree": "pages for selectors",
     "css_html": "tokens of pages",
     "css_html_tree": "trees of pages",
+    "css_xml": "XML documents",
     "html_calls": "calls: HTML",
     "html_edits": "edits of pages",
     "edit_calls": "calls: edits",
+    "css_edits": "edits of sheets",
+    "css_edit_calls": "calls: edits of sheets",
+    "page_sheets": "sheets of pages",
+    "css_inline": "sheets in attributes",
+    "inline_calls": "calls: inlined pages",
     "html_encodings": "encodings of pages",
     "css_laws": "laws of several crates",
     "clean_laws": "laws of cleaned sheets",
+    "sheet_laws": "laws of sheets that are cut",
+    "xml_laws": "laws of tokens of XML",
     "simplecss": "rules in order, index",
     "css_elements": "trees, as rows",
     "simplecss_tree": "trees for the port",
@@ -51,11 +60,14 @@ MAKES = {
     "cssq_cli": "files, arguments",
     "handles": "objects that C holds",
     "kept_lists": "selectors that stay",
+    "kept_sheets": "sheets that stay",
     "kept_pages": "pages that stay",
+    "kept_queries": "pages with sheets that stay",
     "list_calls": "calls: kept lists",
     "call_answers": "what calls answer",
     "port_calls": "calls: the port",
     "sheet_calls": "calls: sheets",
+    "lint_calls": "calls: lint",
     "page_calls": "calls: pages",
     "simplecss_calls": "calls: what wins",
     "simplecss_c": "the C library",
@@ -91,20 +103,21 @@ COLUMNS = (
     (
         "Style sheets",
         "#eef4fb",
-        "css_text css_syntax css_conditions css_cascade css_sheet css_values css_lint css_clean"
-        " css_styles css_explain sheet_calls clean_calls explain_calls",
+        "css_text css_syntax css_conditions css_cascade css_sheet css_values css_lint clean_values"
+        " css_clean css_styles css_explain css_edits sheet_calls lint_calls clean_calls css_edit_calls",
     ),
     (
         "The C library, and laws",
         "#f3f3f3",
-        "simplecss_c simplecss_calls call_answers css_laws clean_laws",
+        "simplecss_c simplecss_calls call_answers css_laws clean_laws sheet_laws xml_laws",
     ),
     (
         "Selectors and pages",
         "#eef7ee",
         "css_matching css_selector_text css_selectors css_index css_open_elements css_elements css_tree"
-        " page_calls kept_lists list_calls kept_pages handles css_html css_html_tree html_encodings html_calls"
-        " html_edits edit_calls",
+        " page_calls kept_lists list_calls kept_sheets kept_pages kept_queries handles css_html"
+        " css_html_tree css_xml html_encodings html_calls html_edits edit_calls page_sheets"
+        " css_inline inline_calls",
     ),
     (
         "CSS 2.1: the port",

@@ -36,9 +36,10 @@ class Package(NamedTuple):
 
     parts: Path
     crates: Tuple[str, ...]
-    # Single sources of other crates.
+    # Single sources of other crates, and those that are there with the feature `modern` alone.
     sources: Tuple[str, ...] = ()
-    # Crates that are there with the feature `modern` alone.
+    modern_sources: Tuple[str, ...] = ()
+    # Crates that are there with this feature alone.
     modern: Tuple[str, ...] = ()
     # What is copied beside the manifest.
     texts: Tuple[Path, ...] = ()
@@ -46,8 +47,9 @@ class Package(NamedTuple):
 
 # fmt: off
 RUST = Package(TOP / "release/rust", ("simplecss", "simplecss_tree"), ("cssq/src/cascade.rt",),
+               ("sheet_calls/src/functions.rt",),
                ("css_styles", "css_explain", "css_values", "css_conditions", "css_lint", "html_calls",
-                "html_encodings", "css_clean"))
+                "html_encodings", "css_clean", "css_edits", "css_inline"))
 # fmt: on
 HEADERS = (TOP / "include/simplecss.h", TOP / "include/simplecss.hpp")
 LIBRARY = Package(TOP / "release/c/crate", ("simplecss_c",), texts=HEADERS)
@@ -92,6 +94,15 @@ CHANGED = {
             "let ListHandle { at, alloc } = *core::mem::ManuallyDrop::new(self);"
         ),
     },
+    "kept_sheets/handle.rs": {
+        "fn drop(self)": "fn drop(&mut self)",
+        "drop(self.into_box())": (
+            "drop(core::mem::replace(self, SheetHandle::none(self.alloc)).into_box())"
+        ),
+        "let SheetHandle { at, alloc } = self;": (
+            "let SheetHandle { at, alloc } = *core::mem::ManuallyDrop::new(self);"
+        ),
+    },
     "kept_pages/page.rs": {
         "fn drop(self)": "fn drop(&mut self)",
         """let KeptPage {
@@ -107,6 +118,19 @@ CHANGED = {
         ),
         "let PageHandle { at, alloc } = self;": (
             "let PageHandle { at, alloc } = *core::mem::ManuallyDrop::new(self);"
+        ),
+    },
+    "kept_queries/query.rs": {
+        "fn drop(self)": "fn drop(&mut self)",
+        "let KeptQuery { kept, alloc } = self;": "let (kept, alloc) = (self.kept.take(), self.alloc);",
+    },
+    "kept_queries/handle.rs": {
+        "fn drop(self)": "fn drop(&mut self)",
+        "drop(self.into_box())": (
+            "drop(core::mem::replace(self, QueryHandle::none(self.alloc)).into_box())"
+        ),
+        "let QueryHandle { at, alloc } = self;": (
+            "let QueryHandle { at, alloc } = *core::mem::ManuallyDrop::new(self);"
         ),
     },
 }
@@ -342,6 +366,8 @@ def placed(text: str, crate: str, crates: List[str]) -> str:
     text = re.sub(r"(?<![\w:$])log::", "crate::rattle_log::", text)
     text = re.sub(r"\.(to_ascii_lowercase|to_string)\(((?:\w+\.)?alloc)\)", r".\1_in(\2)", text)
     text = re.sub(r"\.join\(((?:\w+\.)?alloc), ", r".join_in(\1, ", text)
+    # Older versions of Rust have it as an unstable method: the name of `rattle_std` is another one.
+    text = text.replace(".trim_ascii()", ".without_spaces_around()")
     text = re.sub(r"\bformat!\(in ", "crate::rattle_std::string::format_in!(", text)
     text = re.sub(r"\bvec!\[in ", "crate::rattle_std::vec::vec_in![", text)
     lines = text.split("\n")
@@ -393,7 +419,7 @@ def sources(package: Package) -> List[Tuple[str, Path, str]]:
     """Returns the crate, the path and the place in the package of each source."""
     crates = closure(package.crates + package.modern)
     found = []
-    for source in package.sources:
+    for source in (*package.sources, *package.modern_sources):
         crate, _, name = source.partition("/src/")
         found.append((crate, TOP / "crates" / source, f"{crate}/{Path(name).with_suffix('.rs')}"))
     for crate in sorted(crates):
@@ -415,7 +441,7 @@ def write_sources(package: Package, to: Path) -> None:
         place.parent.mkdir(parents=True, exist_ok=True)
         text = changed(with_pointers(placed(erased(path), crate, crates)), name)
         place.write_text(text, encoding="utf-8")
-    for source in package.sources:
+    for source in (*package.sources, *package.modern_sources):
         (to / source.partition("/")[0] / "mod.rs").write_text(f"pub mod {Path(source).stem};\n")
     always = {*closure(package.crates), *(it.partition("/")[0] for it in package.sources)}
     gates = ("" if it in always else '#[cfg(feature = "modern")]\n' for it in crates)

@@ -34,17 +34,23 @@ No contract says that memory is left, or that a call with memory returns an `Ok`
 """
 QUOTES = (
     (
-        "Which declaration wins, by `winners_law`, a law of what `simplecss_winners` writes of an element"
-        " (`device_law`: on a device); `tools/believed.py` counts what it rests on:",
-        "crates/css_laws/src/headline.rt",
-        "ensures { (passed : PassedSheets) (limit : ℕ)",
+        "Which declarations win on a device, by `query_law`. Its first premise is the clause of"
+        " `simplecss_query_numbers`, and `tools/believed.py` counts what the rest names:",
+        "crates/css_laws/src/queries.rt",
+        "ensures on_device {",
         7,
     ),
     (
-        "The definitions that it names:",
+        "The definition that it names:",
+        "crates/css_laws/specs/Queries.antt",
+        "-- What numbers say of a query",
+        19,
+    ),
+    (
+        "What this names:",
         "crates/css_laws/specs/Headline.antt",
         "-- The selector of a rule of the sheets, as the document reads it",
-        30,
+        31,
     ),
     (
         "Matching, by `Selector::matches_counted`, which `matches` calls:",
@@ -84,6 +90,7 @@ GATHERED = {
     "What is rolled back does not win.": ("rollback_law",),
     "Of each property of which a declaration counts exactly one wins.": (
         "one_law",
+        "query_law",
         "winners_law",
         "styles_law",
         "device_law",

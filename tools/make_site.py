@@ -5,7 +5,8 @@
 
 It needs Sphinx with its readers of Markdown, which Debian has: python3-sphinx, python3-myst-parser
 and furo. Sphinx reads the pages where they are, and this file is its extension: it puts a table of
-contents after README.md, by the rows of docs/README.md. A link that leads nowhere is an error.
+contents after README.md, by the rows of docs/README.md, and into docs/REFERENCE.md what the Python
+package documents of its names. A link that leads nowhere is an error.
 """
 from __future__ import annotations
 
@@ -18,7 +19,7 @@ from pathlib import Path
 from typing import Any, Dict, List, Tuple
 
 TOP = Path(__file__).resolve().parent.parent
-FRONT, INDEX = "README", "docs/README"
+FRONT, INDEX, REFERENCE = "README", "docs/README", "docs/REFERENCE"
 # The Python that Debian's packages are for.
 DEBIAN = "/usr/bin/python3"
 NEEDED = {"sphinx": "python3-sphinx", "myst_parser": "python3-myst-parser", "furo": "furo"}
@@ -27,9 +28,15 @@ SETTINGS = {
     "project": "simplecss",
     "html_title": "simplecss",
     "root_doc": FRONT,
-    "extensions": "myst_parser,make_site",
+    "extensions": "myst_parser,sphinx.ext.autodoc,make_site",
     "include_patterns": ",".join(PAGES),
     "html_theme": "furo",
+    # Of Python: what is between single backquotes is code, and names are those that programs import.
+    "default_role": "code",
+    "add_module_names": "0",
+    "autodoc_typehints_format": "short",
+    "autodoc_preserve_defaults": "1",
+    "python_use_unqualified_type_names": "1",
     "html_copy_source": "0",
     "html_show_sphinx": "0",
     "html_show_copyright": "0",
@@ -53,11 +60,27 @@ def contents(index: str) -> str:
     return "\n\n".join(tables)
 
 
+def reference() -> str:
+    """What the Python package documents of its names."""
+    lines = ["```{eval-rst}"]
+    for name in ("simplecss", "simplecss.sieve"):
+        lines += [f".. automodule:: {name}", "   :members:"]
+        lines.append("   :inherited-members: list, tuple, ValueError, RuntimeError, OSError")
+    return "\n".join([*lines, "```"])
+
+
+def drop_numbers(_: Any, __: str, ___: str, ____: Any, _____: Any, lines: List[str]) -> None:
+    """Leaves out what Python itself documents of the field of a tuple."""
+    if lines and lines[0].startswith("Alias for field number "):
+        lines.clear()
+
+
 def setup(app: Any) -> Dict[str, Any]:
     """Lets Sphinx read pages by this file."""
     app.connect("config-inited", set_anchors)
     app.connect("source-read", put_contents)
     app.connect("html-page-context", put_style)
+    app.connect("autodoc-process-docstring", drop_numbers)
     return {"parallel_read_safe": True}
 
 
@@ -87,6 +110,8 @@ def put_contents(_: Any, name: str, source: List[str]) -> None:
     source[0] = re.sub(r"\[!\[([^\]]*)\]\((\S+)\)\]\(\2\)", opened, source[0])
     if name == FRONT:
         source[0] += "\n" + contents((TOP / f"{INDEX}.md").read_text())
+    elif name == REFERENCE:
+        source[0] += "\n" + reference()
 
 
 def find_python() -> str:
@@ -113,7 +138,8 @@ def main(words: List[str]) -> int:
     settings = [f"-D{name}={value}" for name, value in SETTINGS.items()]
     call = [python, "-m", "sphinx", "-q", "-W", "--keep-going", "-E", "-C", "-d"]
     paths = [str(to / ".doctrees"), *settings, str(TOP), str(to)]
-    environment = {**os.environ, "PYTHONPATH": str(TOP / "tools")}
+    folders = map(str, (TOP / "tools", TOP / "python/src"))
+    environment = {**os.environ, "PYTHONPATH": os.pathsep.join(folders)}
     done = subprocess.run([*call, *paths], cwd=TOP, env=environment, check=False)
     if done.returncode == 0:
         shutil.copy(to / f"{FRONT}.html", to / "index.html")

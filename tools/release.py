@@ -56,6 +56,8 @@ FLAGS = [
     "-disable-postra-machine-licm",
 ]
 # fmt: on
+# What is loaded over a network is compiled to be small.
+SMALL = ["-Oz", *FLAGS[1:]]
 
 # What the Debian packages are.
 OF_PROGRAM = """proved library of style sheets and selectors, command line
@@ -72,6 +74,7 @@ MODULES = (
     "bytes",
     "second_bytes",
     "library",
+    "taken",
     "properties",
     "reading",
     "nested",
@@ -83,24 +86,25 @@ MODULES = (
     "html",
     "tree",
     "winners",
+    "explaining",
     "unused",
     "sheet",
     "lint",
     "clean",
+    "edit",
+    "inline",
 )
 # The names of the properties that browsers know.
 PROPERTIES = TOP / "python/src/simplecss/properties.txt"
 # The calls that are in the second WebAssembly module: those for texts that no page is asked about.
 SECOND = (
     "clean",
-    "counterpart",
     "dropped",
-    "explain",
+    "edit",
     "html_edit",
-    "inherited",
+    "inline",
     "lint",
-    "longhands",
-    "shorthands",
+    "property",
     "valid_value",
     "values",
 )
@@ -609,7 +613,7 @@ class Release:
         clang, linker = self.tools / "clang", self.room / "wasm-ld"
         words = [clang, f"--target={triple}", "-mcpu=lime1", "-mbulk-memory", "--no-default-config"]
         run(
-            *words, *FLAGS, "-c", "-x", "ir", self.module_for(triple), "-o", self.room / "library.o"
+            *words, *SMALL, "-c", "-x", "ir", self.module_for(triple), "-o", self.room / "library.o"
         )
         run(
             *words,

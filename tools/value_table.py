@@ -1,7 +1,7 @@
 #!/usr/bin/env python3
-"""Writes the table of the values that properties take, for `lint`.
+"""Writes the table of the values that properties take.
 
-  tools/value_table.py           writes it into crates/css_lint (some minutes)
+  tools/value_table.py           writes it into crates/css_values (some minutes)
 
 The values are those of the standards' value definitions, as Debian's package `node-mdn-data` has
 them, and those that Chromium takes (`CSS.supports`), of which the words are read from its program.
@@ -23,7 +23,7 @@ from typing import NamedTuple, Optional, Union
 
 DATA = Path("/usr/share/nodejs/mdn-data/css")
 PROGRAM = Path("/usr/lib/chromium/chromium")
-TARGET = Path(__file__).resolve().parent.parent / "crates/css_lint/src/value_data.rt"
+TARGET = Path(__file__).resolve().parent.parent / "crates/css_values/src/value_data.rt"
 # What every property takes alone; the last of them only in Chromium.
 WIDE = ("inherit", "initial", "unset", "revert", "revert-layer", "revert-rule")
 # What shorthands set and have no part for.
@@ -323,7 +323,7 @@ def keywords_of_program() -> list[str]:
     found = re.compile(rb"(?:-?[a-zA-Z][-a-zA-Z0-9]*\0)+").match(data, at)
     assert found
     words = found[0].decode().split("\0")[:-1]
-    return sorted({each.lower() for each in words if not each.startswith("-")})
+    return sorted({each.lower() for each in words})
 
 
 PAGE = """
@@ -552,6 +552,7 @@ def code() -> str:
     table = "\\n\\\n    ".join(literal(line) for line in sorted(lines))
     words = " ".join([*sorted(colors.valid), *("?" + each for each in sorted(colors.unknown))])
     units = "\\n\\\n    ".join(literal(f"{letter} {units}") for letter, units in UNITS.items())
+    prefixed = " ".join(each for each in keywords_of_program() if each.startswith("-"))
     return f"""\
 //! The values that properties take.
 //!
@@ -566,6 +567,16 @@ pub const COLOR_WORDS: &str = "\\
 /// The units, after the letters of their classes.
 pub const UNIT_CLASSES: &str = "\\
     {units}\\n";
+
+/// The words that every property takes.
+pub const WIDE_WORDS: &str = "{' '.join(WIDE)}";
+
+/// The words and the functions with a vendor's prefix that Chromium knows.
+pub const PREFIXED: &str = "\\
+    {literal(prefixed)}";
+
+/// The functions with another value in their place. With one of them anything may be in a value.
+pub const SUBSTITUTED: &str = "attr env if inherit random-item var";
 
 /// For each of some properties, between bars: the names; how many components their values have, or
 /// 0 for any number; the classes and the words of what is valid alone; and those of what may be in

@@ -30,7 +30,13 @@ function tried(call) {
 function sheetOf(text, grammar) {
   const sheet = new css.StyleSheet([text, `${text}é`], { grammar });
   const characters = ({ source, start, end }) => [start, end].map(at => [...(source ? `${text}é` : text).slice(0, at)].length);
+  const place = each => {
+    const found = css.placeOf(each);
+    return found && [found.source, found.row, found.column, ...characters(found)];
+  };
+  const rules = [...sheet.rules, ...sheet.unsupported];
   return [
+    [...rules.map(each => [place(each), ...each.declarations.map(place)]), ...sheet.atRules.map(place)],
     sheet.rules.map(each => [
       each.selector, each.specificity, each.declarations.map(declared), each.conditions.map(within), each.pseudoElement,
       each.parents]),
@@ -41,7 +47,7 @@ function sheetOf(text, grammar) {
     [...sheet.match(tree).values()],
     [...sheet.match(tree, { media: { width: 375, type: 'print', dark: true } }).values()],
     [...sheet.match(tree, { media: device }).values()],
-    [...sheet.styles(tree, { media: query => query.length % 2 === 0 }).values()].map(each => each.map(declared)),
+    [...sheet.styles(tree, { media: query => query.length % 2 === 0, anyValue: true }).values()].map(each => each.map(declared)),
     [...sheet.style(tree, 'color').values()].map(declared),
   ];
 }

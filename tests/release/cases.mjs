@@ -59,8 +59,8 @@ function selector(text) {
   }
 }
 
-function styles(page, device, sheet) {
-  const found = css.styles(pageOf(page), sheet, { media: deviceOf(device) });
+function styles(page, device, sheet, options = {}) {
+  const found = css.styles(pageOf(page), sheet, { media: deviceOf(device), ...options });
   return [...found.values()].map(each => each.map(shown).join('; ')).join('\n');
 }
 
@@ -68,6 +68,7 @@ const cleaned = ({ text, dropped }) => `${text}|${dropped.map(each => each.reaso
 
 const ANSWERS = {
   selector, styles,
+  any_value: (page, device, sheet) => styles(page, device, sheet, { anyValue: true }),
   select: (page, selectors) => indices(pageOf(page).select(selectors)),
   namespaces: (page, declared, selectors) => indices(pageOf(page).select(selectors, { namespaces: prefixes[declared] })),
   any_case: (page, selectors) => indices(pageOf(page).select(selectors)),

@@ -2,7 +2,7 @@
 //! row is a question and its fields, with the byte 1 between them. A page in a field is `html` or nothing, and a line for each
 //! element, a device is its numbers, and pairs are texts, each with the byte 2 after it. Standard output has the answers, with the
 //! byte 0 after each.
-use simplecss::modern::{closed_value, declarations, decode, Declaration, Document, Item, Options, Selector, Sheet};
+use simplecss::modern::{closed_value, declarations, decode, Declaration, Document, Item, Options, Selector, Sheet, Text};
 use simplecss::modern::clean::{clean_sheet, clean_style, comment, is_clean_sheet, mail, Cleaned};
 use simplecss::modern::{takes_value, HtmlMode, NamespacedAttribute, Names, Prefix, NO_NAMES};
 use simplecss::modern::{Contrast, Device, Display, Gamut, Medium, Pointer, Scripting, Update};
@@ -133,12 +133,12 @@ fn device(field: &str) -> Device {
     }
 }
 
-fn styles(page: &str, on: &str, text: &str) -> String {
+fn styles(page: &str, on: &str, text: &Text<'_>) -> String {
     let sheet = Sheet::parse(text, &Options { device: device(on), ..Options::default() }).unwrap();
     let size = page.split('\n').count() - 1;
     on_page(page, |mut document| {
         let mut styles = document.styles(&sheet, usize::MAX).unwrap();
-        let won = |index| styles.winners(index, "").iter().map(|it| shown(&it.declaration)).collect::<Vec<_>>().join("; ");
+        let won = |index| styles.winners(index, ()).iter().map(|it| shown(&it.declaration)).collect::<Vec<_>>().join("; ");
         (0..size).map(won).collect::<Vec<_>>().join("\n")
     })
 }
@@ -179,8 +179,13 @@ fn answer(fields: &[&str]) -> String {
         ["any_case", page, selectors] => any_case(page, selectors),
         ["takes", name, value] => takes_value(name, value).map_or("not known".to_string(), |it| it.to_string()),
         ["namespaces", page, spaces, selectors] => select(page, spaces, selectors),
-        ["styles", page, on, sheet] => styles(page, on, sheet),
-        ["alike", page, on, sheet, other] if styles(page, on, sheet) == styles(page, on, other) => "alike".to_string(),
+        ["styles", page, on, sheet] => styles(page, on, &Text::sheet(sheet)),
+        ["any_value", page, on, sheet] => styles(page, on, &Text::any_value(sheet)),
+        ["alike", page, on, sheet, other]
+            if styles(page, on, &Text::sheet(sheet)) == styles(page, on, &Text::sheet(other)) =>
+        {
+            "alike".to_string()
+        }
         ["declarations", text] => all_declarations(text),
         ["name", text] => decode(text),
         ["media", queries, on] => Options { device: device(on), ..known }.holds("media", queries).to_string(),

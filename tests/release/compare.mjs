@@ -4,7 +4,7 @@ import { readFileSync, writeSync } from 'node:fs';
 
 const [folder] = process.argv.slice(2);
 const { Tree } = await import(`${folder}/index.mjs`);
-const { KeptPage, NO_LIMIT, askList, call, joined, provide, sizes } = await import(`${folder}/library.mjs`);
+const { KeptPage, NO_LIMIT, askList, call, joined, provide, sheetNumbers, sheetText, sizes } = await import(`${folder}/library.mjs`);
 // The calls are made as they are, and the second module is to be there.
 provide({ second: (await import(`${folder}/second_bytes.mjs`)).default });
 const elements = Tree.elementsOf(new Tree(JSON.parse(readFileSync(process.argv[3], 'utf8'))));
@@ -14,8 +14,8 @@ const listOf = (text, grammar) =>
   askList(text, grammar, ask => [ask('numbers', { isNumbers }), ask('text', {})]) ?? [null, null];
 const [grammar, tree] = elements.words('modern'), kept = new KeptPage(tree, grammar);
 // The policy of compare.c.
-const names = joined(['.x', 'color', 'x', 'rgb', 'color', 'hover', 'print']);
-const policy = { arrays: [...names, 2n, 1n, 1n, 1n, 1n, 0n, NO_LIMIT] };
+const names = joined(['.x', '', 'color', 'x', 'rgb', 'color', 'hover', 'a', 'b', 'print']);
+const policy = { arrays: [...names, 2n, 1n, 1n, 1n, 1n, 0n, 0n, 0n, 1n, 0n, NO_LIMIT] };
 const input = readFileSync(0);
 for (let at = 0; at < input.length; ) {
   const length = Number(input.readBigUInt64LE(at));
@@ -23,20 +23,18 @@ for (let at = 0; at < input.length; ) {
   at += 8 + length;
   const ends = sizes([length]), sheet = [text, ends, NO_LIMIT];
   const [portNumber, port] = elements.words('simplecss'), modern = elements.words('modern');
+  const portAnswer = asked => call('port', [...sheet, asked, port], { most, hasTree });
   const answers = [
-    call('port_sheet', sheet), call('port_selector', [text]), call('port_skipped', [text]),
-    ...listOf(text, portNumber),
-    call('port_rules', sheet), call('port_match', [...sheet, port], { most, hasTree }),
-    call('port_styles', [...sheet, port], { most, hasTree }),
-    call('read', [text], { most, isNumbers }), call('declarations', [text], { isNumbers }),
-    call('imports', [text]), call('contents', [text], { isNumbers }),
-    call('lint', [text, 1n]),
+    ...[0n, 2n].map(portAnswer), ...listOf(text, portNumber), ...[1n, 3n, 4n, 5n].map(portAnswer),
+    sheetNumbers(text, 0n), call('declarations', [text], { isNumbers }),
+    sheetText(text, 2n), sheetNumbers(text, 1n),
+    call('lint', [text, 1n]), call('refused_values', [text, 0n], { isNumbers }),
     call('clean', [text, policy, 0n]), call('clean', [text, policy, 1n]), call('dropped', [text, policy, 0n], { isNumbers }),
     call('html_encoding', [text, text]),
-    call('close', [text]), call('print', [text, 0n]), call('print', [text, 1n]),
-    call('escape', [text]), call('quote', [text]), call('decode', [text, 1n]),
+    call('close', [text]), sheetText(text, 0n), sheetText(text, 1n),
+    call('spell', [text, 2n]), call('spell', [text, 3n]), call('spell', [text, 1n]),
     ...listOf(text, modern[0]),
-    call('refusal', [text, ...modern], { hasTree }), call('select', [text, ...modern], { most, hasTree }),
+    call('refusal', [text, ...modern], { hasTree }),
     kept.select(text, -1, 0, elements.names.length)?.map(index => index + 1),
     call('match_selectors', [text, ends, ...modern], { most, hasTree }),
   ];

@@ -76,7 +76,9 @@ fn tokens(text: &str) -> String {
 fn answers(tree: &Tree, text: &str) -> [String; 6] {
     let sheet = StyleSheet::parse(text);
     let end = if sheet.rules.is_empty() { "" } else { "\n" };
-    let selector = Selector::parse(text).map_or(String::new(), |it| {
+    // The library reads lists, and this what comes before `,`, `{` or `/`.
+    let is_one = !text.contains([',', '{', '/']);
+    let selector = Selector::parse(text).filter(|_| is_one).map_or(String::new(), |it| {
         let [a, b, c] = it.specificity();
         format!("{it}\t{a},{b},{c}\n")
     });

@@ -7,7 +7,7 @@ mod own;
 
 use own::{Own, Row, Rows};
 use simplecss::modern::{closed_value, decode, declarations, AtRule, Declaration, Declarations, Document, Item, NeedsPage};
-use simplecss::modern::{Options, Page, Selector, Sheet};
+use simplecss::modern::{Options, Page, Selector, Sheet, Text};
 use simplecss::tree::Tree;
 use std::fmt::Write as _;
 use std::io::{Read, Write};
@@ -164,15 +164,15 @@ fn found(both: &mut Both, sheet: &Sheet) -> String {
 }
 
 fn winners(both: &mut Both, sheet: &Sheet) -> String {
+    let own = Text::any_value("COLOR: a; --x: b !important");
     let (mut out, mut of_page) = (String::new(), both.page.styles(sheet, usize::MAX).unwrap());
     let mut styles = both.document.styles(sheet, usize::MAX).unwrap();
     for number in 0..both.page.len() {
-        let all: Vec<Declaration> = styles.winners(number, "").iter().map(|it| it.declaration).collect();
+        let all: Vec<Declaration> = styles.winners(number, ()).iter().map(|it| it.declaration).collect();
         for name in PROPERTIES {
-            let won = styles.style(number, "", name);
-            assert_eq!(of_page.style(number, "", name), won);
-            let own = "COLOR: a; --x: b !important";
-            assert_eq!(of_page.style(number, own, name), styles.style(number, own, name));
+            let won = styles.style(number, (), name);
+            assert_eq!(of_page.style(number, (), name), won);
+            assert_eq!(of_page.style(number, &own, name), styles.style(number, &own, name));
             let won = won.map(|it| it.declaration);
             match sheet.winning(both.page.element(number).unwrap(), name) {
                 Ok(found) => assert_eq!(found, won),
@@ -191,7 +191,8 @@ fn winners(both: &mut Both, sheet: &Sheet) -> String {
 
 fn answers(both: &mut Both, text: &str) -> [String; 7] {
     let options = Options { limit: usize::MAX, ..Options::default() };
-    let (mut list, sheet) = (String::new(), Sheet::parse_where(text, &options, holds).unwrap());
+    let (mut list, any) = (String::new(), Text::any_value(text));
+    let sheet = Sheet::parse_where(&any, &options, holds).unwrap();
     items(&mut list, declarations(text));
     let matches = matched(both, text);
     let (index, winners) = (found(both, &sheet), winners(both, &sheet));

@@ -3,7 +3,7 @@
 mod own;
 
 use own::{Row, Rows};
-use simplecss::modern::{Options, Selector, Sheet};
+use simplecss::modern::{Options, Selector, Sheet, Text};
 
 /// A chain of elements `a`, each with two further children `b`.
 fn chain(count: usize) -> Rows<'static> {
@@ -34,7 +34,8 @@ fn matches(rows: &Rows, count: usize) {
         selector.matches(&last).unwrap();
         at_most(text, rows, most);
     }
-    let sheet = Sheet::parse("c a b { d: e }", &Options::default()).unwrap();
+    let text = Text::sheet("c a b { d: e }");
+    let sheet = Sheet::parse(&text, &Options::default()).unwrap();
     sheet.winning(&last, "x").unwrap();
     at_most("winning of a property that no rule states", rows, 0);
     sheet.winning(&last, "d").unwrap();
@@ -64,10 +65,11 @@ fn select(rows: &Rows, count: usize) {
 /// A walk: each rule of which the element has a key is tested at most once, and only if it asks for more.
 fn styles(rows: &Rows, count: usize) {
     let (page, all) = (rows.page(), 3 * count);
-    let text = "a { x: 1 } .k { x: 2 } b.k { x: 3 } c b.k { x: 4 } a:has(b) { & b { x: 5 } }";
-    let sheet = Sheet::parse(text, &Options::default()).unwrap();
+    let text = Text::sheet("a { x: 1 } .k { x: 2 } b.k { x: 3 } c b.k { x: 4 } a:has(b) { & b { x: 5 } }");
+    let sheet = Sheet::parse(&text, &Options::default()).unwrap();
     let mut walk = page.styles(&sheet, usize::MAX).unwrap();
-    at_most("Page::styles", rows, 2 * all);
+    // The list of `:has()` is answered once, and that of `&` after it twice.
+    at_most("Page::styles", rows, 3 * all);
     for index in 0..all {
         walk.matching(index);
     }
@@ -76,7 +78,7 @@ fn styles(rows: &Rows, count: usize) {
     walk.matching(all - 1);
     rows.take_asked();
     for name in ["x", "y", "z"] {
-        walk.style(all - 1, "", name);
+        walk.style(all - 1, (), name);
     }
     at_most("PageStyles::style, again", rows, 0);
 }
@@ -84,8 +86,8 @@ fn styles(rows: &Rows, count: usize) {
 /// The index and the walk of a sheet.
 fn index(rows: &Rows, count: usize) {
     let all = 3 * count;
-    let text = "a { x: 1 } .k { x: 2 } #i b { x: 3 } c b.k { x: 4 } .l b { x: 5 } b.k { x: 6 }";
-    let sheet = Sheet::parse(text, &Options::default()).unwrap();
+    let text = Text::sheet("a { x: 1 } .k { x: 2 } #i b { x: 3 } c b.k { x: 4 } .l b { x: 5 } b.k { x: 6 }");
+    let sheet = Sheet::parse(&text, &Options::default()).unwrap();
     let (mut index, mut walk) = (sheet.index().unwrap(), sheet.walk().unwrap());
     let last = rows.node(all - 1);
     index.matching(&last);

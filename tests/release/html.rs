@@ -2,7 +2,7 @@
 //! bytes and the bytes. The answer to each pair, with its length first, is a line for each element, each text, and the elements that match.
 //! What a sheet of these selectors declares wins on the same elements.
 use simplecss::modern::html::{Document, Element, Page};
-use simplecss::modern::{Options, Selector, Sheet};
+use simplecss::modern::{Options, Selector, Sheet, Text};
 use std::fmt::Write as _;
 use std::io::{Read, Write};
 
@@ -19,13 +19,14 @@ fn line(it: &Element) -> String {
 /// The elements on which a sheet's declaration wins.
 fn styled(document: &mut Document, count: usize, selectors: &str) -> Vec<usize> {
     let text = format!("{selectors} {{ a: b }}");
+    let text = Text::sheet(&text);
     let sheet = Sheet::parse(&text, &Options::default()).unwrap();
     let rules = document.rules(&sheet);
     let mut styles = document.styles(&rules, usize::MAX).unwrap();
     for index in 0..count {
-        assert_eq!(styles.matching(index).is_empty(), styles.winners(index, "").is_empty());
+        assert_eq!(styles.matching(index).is_empty(), styles.winners(index, ()).is_empty());
     }
-    (0..count).filter(|it| styles.style(*it, "", "a").is_some()).collect()
+    (0..count).filter(|it| styles.style(*it, (), "a").is_some()).collect()
 }
 
 fn answer(text: &str, selectors: &str) -> String {

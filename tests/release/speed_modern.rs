@@ -1,6 +1,6 @@
 //! Which rules of a style sheet match each element of a page: by the index of the module `modern`, and by a test of each rule.
 //! The fastest of some runs, in turn, in seconds of elapsed time, and their quotient.
-use simplecss::modern::{Document, Options, Sheet};
+use simplecss::modern::{Document, Options, Sheet, Text};
 use simplecss::tree::Tree;
 use std::time::{Duration, Instant};
 
@@ -27,6 +27,7 @@ fn main() {
     let text = std::fs::read_to_string(std::env::args().nth(1).unwrap()).unwrap();
     let classes: Vec<String> = (0..4000).map(|it| format!("{} n{}", CLASSES[it % 6], it % 50)).collect();
     let tree = page(&classes);
+    let text = Text::sheet(&text);
     let sheet = Sheet::parse_where(&text, &Options::default(), |_, _| true).unwrap();
     let document = Document::new(&tree);
     let node = |number| document.node(number).unwrap();

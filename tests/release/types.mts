@@ -13,6 +13,7 @@ for (const [element, declarations] of sheet.styles(tree, { media: query => query
   const name: string = element.name, value: string | undefined = declarations[0]?.value;
   console.log(name, value, own, winners, drawn, isDrawn);
 }
+const shown: string | null = sheet.explain(tree, 'color', { names: ['all'], media: 'print' }).get(tree.elements[0]!)?.winner?.layer ?? null;
 sheet.match(tree, { media: { width: 375, resolution: 2, pointer: 'coarse', anyPointer: 'coarse fine', deviceWidth: 400 } });
 // A DOM, and what parse5 reads.
 const links: HTMLAnchorElement[] = select<HTMLAnchorElement>(document, 'a:link');

@@ -1,6 +1,6 @@
 //! What a single element cannot answer is an error, and what a page answers is right, whatever was asked before. The winners,
 //! and which conditions hold, are those of Chromium 156.
-use simplecss::modern::{Document, NeedsPage, Options, Page, Selector, Sheet, TooManyAnswers};
+use simplecss::modern::{Document, NeedsPage, Options, Page, Selector, Sheet, Text, TooManyAnswers};
 use simplecss::tree::Tree;
 
 /// A list of two items, of which the second has a link.
@@ -13,22 +13,23 @@ fn tree() -> Tree<'static> {
     tree
 }
 
-fn sheet(text: &str) -> Sheet<'_> {
+fn sheet<'a>(text: &'a Text<'_>) -> Sheet<'a> {
     Sheet::parse(text, &Options::default()).unwrap()
 }
 
 /// The winners of `color`, on a document and on a page of its elements.
 fn colors(document: &mut Document, text: &str) -> Vec<Option<String>> {
-    let sheet = sheet(text);
+    let text = Text::sheet(text);
+    let sheet = sheet(&text);
     let mut styles = document.styles(&sheet, 1_000).unwrap();
-    let one = (0..4).map(|it| styles.style(it, "", "color").map(|it| it.declaration.value.to_string())).collect();
+    let one = (0..4).map(|it| styles.style(it, (), "color").map(|it| it.declaration.value.to_string())).collect();
     let mut page = Page::new();
     for (index, parent) in [None, Some(0), Some(0), Some(2)].into_iter().enumerate() {
         page.push(parent, document.node(index).unwrap()).unwrap();
     }
     let mut styles = page.styles(&sheet, 1_000).unwrap();
-    let other: Vec<_> = (0..4).map(|it| styles.style(it, "", "color").map(|it| it.declaration.value.to_string())).collect();
-    assert_eq!(one, other, "{text}");
+    let other: Vec<_> = (0..4).map(|it| styles.style(it, (), "color").map(|it| it.declaration.value.to_string())).collect();
+    assert_eq!(one, other, "{text:?}");
     one
 }
 
@@ -62,7 +63,7 @@ fn main() {
         assert_eq!(options.holds(keyword, prelude), due, "@{keyword} {prelude}");
         assert_eq!(options.holds(&keyword.to_uppercase(), prelude), due);
         let text = format!("@{keyword} {prelude} {{ a {{ b: c }} }}");
-        assert_eq!(Sheet::parse(&text, &options).unwrap().rules().len(), usize::from(due), "{text}");
+        assert_eq!(Sheet::parse(&Text::sheet(&text), &options).unwrap().rules().len(), usize::from(due), "{text}");
     }
     assert!(!options.holds("container", "(min-width: 1px)") && !options.holds("", ""));
     let tree = tree();
@@ -96,14 +97,16 @@ fn main() {
         assert!(selector.needs_page(), "{text}");
         assert_eq!(selector.matches(&node), Err(NeedsPage), "{text}");
         let text = format!("li {{ color: green }} {text} {{ color: red }}");
-        let sheet = sheet(&text);
+        let read = Text::sheet(&text);
+        let sheet = sheet(&read);
         assert_eq!(sheet.winning(&node, "color").err(), Some(NeedsPage), "{text}");
         assert!(sheet.index().is_err() && sheet.walk().is_err(), "{text}");
         let all: Vec<_> = sheet.rules().map(|rule| rule.matches(&node)).collect();
         assert_eq!(all, [Ok(true), Err(NeedsPage)], "{text}");
         assert_eq!(sheet.needing_page().map(|rule| rule.text()).count(), 1, "{text}");
     }
-    let sheet = sheet("li:nth-child(2) { color: red; color: var(--a,!) } ul:is(:scope, &) > li { width: 1px }");
+    let text = Text::sheet("li:nth-child(2) { color: red; color: var(--a,!) } ul:is(:scope, &) > li { width: 1px }");
+    let sheet = sheet(&text);
     assert_eq!(sheet.winning(&node, "color").unwrap().unwrap().value, "red");
     assert_eq!(sheet.index().unwrap().matching(&node), [0, 1]);
     // Limits: two lists, four elements.
