@@ -80,6 +80,8 @@ PAGE: Sequence[Tuple[int, str, List[Tuple[str, str]]]] = [
     (2, "color", [("class", "x")]),
     (1, "div", [("a", ""), ("lang", "de")]),
 ]
+# What clicks the first declaration of the playground.
+CLICK = "<script type=module>document.querySelector('#elements button').click()</script>"
 # fmt: off
 PIECES = [
     "a", "p", "div", ".note", "#x", "*", "[a]", "[a=b]", '[a~="b c"]', "[a|='x']", ":first-child",
@@ -172,7 +174,8 @@ class Release(Case):
         print(f"{what}: {len(texts)} texts")
 
     def opens_page(self, page: str) -> None:
-        """The playground, opened from a file, shows mistakes and what wins."""
+        """The playground, opened from a file, shows mistakes, what wins, and why once that is
+        clicked."""
         browser = shutil.which("chromium") or shutil.which("chromium-browser")
         if not browser:
             self.skipTest("the page was not opened: there is no chromium")
@@ -183,8 +186,11 @@ class Release(Case):
             "--disable-gpu",
             f"--user-data-dir={self.folder}/profile",
         ]
+        clicked = os.path.join(self.folder, "clicked.html")
+        with open(page, encoding="utf-8") as file:
+            write(clicked, file.read() + CLICK)
         dom = run(
-            [*words, "--virtual-time-budget=20000", "--dump-dom", "file://" + page]
+            [*words, "--virtual-time-budget=20000", "--dump-dom", "file://" + clicked]
         ).stdout.decode()
         for wanted in (
             'data-done="yes"',
@@ -193,6 +199,12 @@ class Release(Case):
             "It matches 3 of 8 elements.",
             '<code>.note</code><span class="faint"> (0,1,0)</span>',
             '<s title="another declaration wins">color: blue;</s>',
+            "<code>color: red !important;</code>",
+            "<code>color of &lt;p&gt;</code>",
+            "<code>.note { color: red !important; }</code>"
+            '<span class="faint"> (0,1,0) wins</span>',
+            "<code>p { color: blue; }</code>"
+            '<span class="faint"> (0,0,1) loses by origin and importance</span>',
         ):
             with self.subTest(wanted=wanted):
                 self.assertIn(wanted, dom)
