@@ -11,6 +11,7 @@ or a package of Debian that is missing is left out.
 """
 from __future__ import annotations
 
+import base64
 import ctypes
 import functools
 import glob
@@ -33,7 +34,7 @@ import tempfile
 import threading
 from typing import Any, Callable, Dict, Iterator, List, Optional, Sequence, Tuple
 
-from tests import library_calls, nested_rules, tables
+from tests import library_calls, nested_rules, served, tables
 from tools import erase, metadata, publish
 from tests.common import (
     DEBIAN,
@@ -1077,6 +1078,13 @@ SHEETS = [
     '@media é, (hover) and (MIN-WIDHT: 1px), (foo: bar) { a { top: 0 } } @media ("(widht") { }',
     "a { *zoom: 1; _height: 1px; @media print { tpo: 0 } &:hover { tpo: 0 } } @scope (a) { b { tpo: 0 } }",
 ]
+# A sheet with classes in rules, in rules in these, and with escapes, and what `edit` is asked for of it.
+NAMED_SHEET = """@namespace svg url(http://www.w3.org/2000/svg);
+/* .a */ .a, p > .b\\:c:not(.d é) , [class=".e"] { color: red; .e & { top: 0; .f { x: y } } } {} .é{
+@media print { #x.y { color: blue } @layer { .\\31 a, svg|*::before { top: 0 } } } @font-face { src: url(.g) }
+"""
+MARKED_PAGE = "\ufeff<!DOCTYPE html><html><head><style>p{top:1px}</style></head><body><p class=a>é</p></body></html>"
+SCOPES = ([], ["--scope", ".m > *"], ["--prefix", "1-"], ["--prefix", "q-", "--scope", "#é, b"])
 PAGES = [
     (
         "text/html",
@@ -1645,6 +1653,7 @@ class Npm(Release):
     def test_command(self) -> None:
         good = write(os.path.join(self.folder, "good.css"), "a { top: 0 }\n")
         bad = write(os.path.join(self.folder, "bad.css"), "a < b { x: y }\n")
+        page = write(os.path.join(self.folder, "good.html"), "<p>a")
         cli = os.path.join(self.unpacked(), "cli.mjs")
         line = f"{bad}:1:1: 'a < b {{ x: y }}': invalid selector\n"
         rows: List[Tuple[List[str], Tuple[int, str]]] = [
@@ -1683,6 +1692,19 @@ class Npm(Release):
             (["clean", "--style", "--policy", "today", good], (2, "")),
             (["clean", "--scope", ".m", good, bad], (2, "")),
             (["minify", "--style", good], (2, "")),
+            (["inline"], (2, "")),
+            (["inline", "--json", page], (2, "")),
+            (["inline", page, page], (2, "")),
+            (["inline", "-o", self.folder, page, page], (2, "")),
+            (["inline", good, os.path.join(self.folder, "none.css")], (4, "")),
+            (["inline", os.path.join(self.folder, "page.svg")], (4, "")),
+            (["inline", "-o", os.path.join(self.folder, "none", "a"), page], (4, "")),
+            (["edit"], (2, "")),
+            (["edit", "--style", good], (2, "")),
+            (["edit", "--scope", "a {", good], (1, "")),
+            (["edit", good, bad], (2, "")),
+            (["lsp", good], (2, "")),
+            (["lsp", "--json"], (2, "")),
             (["--version"], (0, f"simplecss {version()}\n")),
             ([], (2, "")),
         ]
@@ -1690,7 +1712,8 @@ class Npm(Release):
             with self.subTest(words=words):
                 done = run(["node", cli, *words])
                 self.assertEqual((done.returncode, done.stdout.decode()), wanted)
-                self.assertEqual(done.stderr == b"", wanted[0] < 2)
+                is_silent = wanted[0] < 2 and words[:2] != ["edit", "--scope"]
+                self.assertEqual(done.stderr == b"", is_silent)
 
     def test_printing(self) -> None:
         """The commands `minify` and `prettify` of both packages write the same."""
@@ -1751,6 +1774,98 @@ class Npm(Release):
                 said = due.stderr.replace(b"simplecss: ", b"")
                 self.assertEqual((done.returncode, done.stderr), (due.returncode, said))
                 self.assertEqual(read(out) if "-o" in words else "", written)
+
+    def test_writing(self) -> None:
+        """The commands `inline` and `edit` of both packages write the same, of mails those that both write alike."""
+        from tests.inlined import MORE_STAYS
+
+        cli = os.path.join(self.unpacked(), "cli.mjs")
+        environment = {**os.environ, "PYTHONPATH": os.path.join(TOP, "python", "src")}
+        sheet = write(os.path.join(self.folder, "a.css"), NAMED_SHEET)
+        given = write(os.path.join(self.folder, "b.css"), "p { margin: 0 } a:hover { top: 0 }")
+        marked = write(os.path.join(self.folder, "a.html"), MARKED_PAGE)
+        mails = glob.glob(os.path.join(TOP, "tests", "mails", "*.html"))
+        alike = [it for it in sorted(mails) if pathlib.Path(it).stem not in MORE_STAYS]
+        inlined = ["inline", "--no-important"]
+        rows = [
+            *([*inlined, each] for each in alike[: count(5)]),
+            *([*inlined, *words, marked, given] for words in ((), ("--keep-style",))),
+            *(["edit", *words, sheet] for words in SCOPES),
+        ]
+        for words in rows:
+            due = self.works([sys.executable, "-m", "simplecss", *words], "", env=environment)
+            with self.subTest(words=words):
+                self.assertEqual(run(["node", cli, *words]).stdout, due.stdout)
+        outputs = []
+        for command in ([sys.executable, "-m", "simplecss"], ["node", cli]):
+            to = os.path.join(self.folder, f"made{len(outputs)}")
+            done = run([*command, *inlined, "-o", to, marked, alike[0]], env=environment)
+            self.assertEqual((done.returncode, done.stdout), (0, b""))
+            outputs.append({it.name: it.read_bytes() for it in pathlib.Path(to).iterdir()})
+        self.assertEqual(outputs[1], outputs[0])
+        self.assertEqual(len(outputs[0]), 2)
+
+    def test_kept_files(self) -> None:
+        """A file is written whole or not at all: what it leads to, with its mode, and no other is left."""
+        cli = os.path.join(self.unpacked(), "cli.mjs")
+        room = os.path.join(self.folder, "room")
+        os.mkdir(room)
+        sheet = write(os.path.join(room, "a.css"), "\ufeffa { colr: red }\n")
+        link = os.path.join(room, "link.css")
+        os.symlink("a.css", link)
+        os.chmod(sheet, 0o640)
+        node = os.stat(sheet).st_ino
+        self.assertEqual(run(["node", cli, "lint", "--fix", link]).returncode, 0)
+        self.assertEqual(pathlib.Path(sheet).read_bytes(), b"\xef\xbb\xbfa { color: red }\n")
+        self.assertTrue(os.path.islink(link))
+        self.assertEqual(os.stat(sheet).st_mode & 0o777, 0o640)
+        self.assertNotEqual(os.stat(sheet).st_ino, node)
+        # A folder in which nothing is made, and an output that is no file.
+        done = run(["node", cli, "minify", "-o", "/proc/self/a.css", sheet])
+        self.assertEqual((done.returncode, done.stdout), (4, b""))
+        done = run(["node", cli, "minify", "-o", "/dev/stdout", sheet])
+        self.assertEqual((done.returncode, done.stdout), (0, b"a{color:red}\n"))
+        # No room: what was there stays.
+        words = [shutil.which("node"), cli, "prettify", "-o", sheet, sheet]
+        limited = ["sh", "-c", 'trap "" XFSZ; ulimit -f 0; exec "$@"', "sh", *map(str, words)]
+        self.assertEqual(run(limited).returncode, 4)
+        self.assertEqual(pathlib.Path(sheet).read_bytes(), b"\xef\xbb\xbfa { color: red }\n")
+        self.assertEqual(sorted(os.listdir(room)), ["a.css", "link.css"])
+
+    def test_server(self) -> None:
+        """The servers of both packages write the same, whatever comes in whatever parts."""
+        inputs = list(served.inputs())
+        script = os.path.join(TOP, "tests", "release", "served.mjs")
+        work = [[base64.b64encode(part).decode() for part in parts] for parts in inputs]
+        words = ["node", script, self.unpacked()]
+        done = self.works(words, "served.mjs", input=json.dumps(work).encode())
+        for parts, (status, written) in zip(inputs, json.loads(done.stdout)):
+            due, messages = served.answered(parts)
+            with self.subTest(b"".join(parts)[66:200]):
+                found = served.replies(base64.b64decode(written))
+                self.assertEqual((status, found), (due, served.replies(messages)))
+
+    def test_served(self) -> None:
+        """The command answers through pipes while the next message has not come, and ends with its input."""
+        words = ["node", os.path.join(self.unpacked(), "cli.mjs"), "lsp", "--stdio"]
+        pipes = {"stdin": subprocess.PIPE, "stdout": subprocess.PIPE}
+        with subprocess.Popen(words, bufsize=0, **pipes) as server:  # type: ignore[call-overload]
+            timer = threading.Timer(120, server.kill)
+            timer.start()
+            found = []
+            for message in (served.START, served.opened("a{colr:red}"), served.SHUT):
+                data = served.frame(message)
+                server.stdin.write(data[:30])
+                server.stdin.write(data[30:])
+                head = server.stdout.readline()
+                server.stdout.readline()
+                found.append(json.loads(server.stdout.read(int(head.split(b":")[1]))))
+            server.stdin.write(served.frame(served.EXIT))
+            self.assertEqual(server.wait(), 0)
+            timer.cancel()
+        self.assertEqual(found[1]["params"]["diagnostics"][0]["code"], "unknown-property")
+        for data, status in ((served.frame(served.START), 1), (b"\0" * 10_000, 1), (b"", 1)):
+            self.assertEqual(run(words, input=data).returncode, status)
 
     def test_urls(self) -> None:
         """In a browser, without a bundler, by its urls: as a module, in a worker of modules, with the

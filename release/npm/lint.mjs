@@ -91,12 +91,17 @@ function findingOf(source, { reason, span, hint, fix }) {
   return {
     ...source.position(span[0]), reason, text, endRow: end.row, endColumn: end.column, hint,
     kind: kindOf(reason), severity: kindsExplained().get(reason)?.[1] ?? 'warning', fix,
-    message: `'${shown}': ${reason}${hint ? ` (did you mean '${hint}'?)` : ''}`,
+    message: `'${shown}': ${reason}${hint ? ` (did you mean '${hint}'?)` : ''}`, start: source.index(span[0]), end: source.index(span[1]),
   };
 }
 
 /** Returns the mistakes of a style sheet, in order, without those of the kinds that are left out. */
 export function lint(text, options) {
+  return foundIn(text, options).map(({ start, end, ...finding }) => finding);
+}
+
+/** Returns the same, each with the indices at which it begins and ends. */
+export function foundIn(text, options) {
   expectOptions(options, ['grammar', 'ignore']);
   const { source, problems } = grammarOf(options) === PORT ? reportedByPort(text) : reported(text);
   const rows = ignoredIn(source.text), everywhere = new Set([options?.ignore ?? []].flat());

@@ -1,5 +1,5 @@
 // The tokens of a text, and names and strings as they are written, as the library reads them.
-import { call, decode, encode, joined } from './library.mjs';
+import { call, decode, encode, sizes } from './library.mjs';
 import { lower } from './reading.mjs';
 
 // The kinds of tokens, as the library numbers them.
@@ -66,16 +66,21 @@ export function decoded(text, isString) {
   return call('spell', [encode(text), BigInt(isString)]);
 }
 
+/** Yields the names in a selector, in order: the kind of each, the bytes at which its sign, it and what follows it begin, and its depths. */
+export function* namesIn(data) {
+  const numbers = call('names', [data, sizes([data.length])], { room: 64 + 2 * data.length, isNumbers: true });
+  for (let first = 0; first < numbers.length; first += NAME_WIDTH) yield numbers.slice(first, first + NAME_WIDTH);
+}
+
 /**
  * Returns the names of pseudo-classes and pseudo-elements in a selector, in order: each without escapes and in lower case, the
  * bytes at which its colons begin and it ends, and whether `:not()` is around it.
  */
 export function pseudoNames(text) {
   if (!text.includes(':')) return [];
-  const [data, ends] = joined([text]), found = [];
-  const numbers = call('names', [data, ends], { room: 64 + 2 * data.length, isNumbers: true });
-  for (let first = 0; first < numbers.length; first += NAME_WIDTH) {
-    const [kind, start, inside, end, , negated] = numbers.slice(first, first + NAME_WIDTH), isElement = PSEUDO_ELEMENTS.includes(kind);
+  const data = encode(text), found = [];
+  for (const [kind, start, inside, end, , negated] of namesIn(data)) {
+    const isElement = PSEUDO_ELEMENTS.includes(kind);
     if (!isElement && !PSEUDO_CLASSES.includes(kind)) continue;
     const written = decode(data.subarray(inside, end));
     found.push({ name: lower(written.includes('\\') ? decoded(written, false) : written), isElement, start, end, isNegated: negated > 0 });
@@ -85,6 +90,11 @@ export function pseudoNames(text) {
 
 /** Returns the texts of the selectors of a list, without the blanks around each. */
 export function partsOfList(head) {
+  return partsOf(head).map(part => part.map(token => token.text).join(''));
+}
+
+/** Returns the tokens of each selector of a list, without the blanks around it. */
+export function partsOf(head) {
   const parts = [[]];
   let depth = 0;
   for (const token of tokens(head)) {
@@ -94,7 +104,7 @@ export function partsOfList(head) {
     else if (parts.at(-1).length || !GAPS.has(token.kind)) parts.at(-1).push(token);
   }
   for (const part of parts) while (part.length && GAPS.has(part.at(-1).kind)) part.pop();
-  return parts.map(part => part.map(token => token.text).join(''));
+  return parts;
 }
 
 /**
