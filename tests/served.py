@@ -42,9 +42,10 @@ HEADS = (
     b"Content-Length: 16777217\r\n\r\n",
 )
 NO_JSON = (b"", b"{", b"\xff", "{}".encode("utf-16"), b"[" * 100_000, b'{"id": NaN}')
+_NO_NUMBERS: Sequence[Any] = (None, True, [], 1.5)
 STRANGE: Sequence[Any] = (
     *([], 1, "x", None, {}, {"id": 1}, {"method": 1}),
-    *({"id": each, "method": "shutdown"} for each in (None, True, [], 1.5)),
+    *({"id": each, "method": "shutdown"} for each in _NO_NUMBERS),
     *({"id": "a", "method": each} for each in ("textDocument/rename", "$/x", "initialize")),
     *({"method": each} for each in ("$/x", "initialized", "textDocument/didOpen")),
     *({"id": 1, "result": None}, {"id": 1, "error": {}}),
@@ -133,7 +134,8 @@ def answered(parts: Sequence[bytes]) -> Tuple[int, bytes]:
     package()
     from simplecss import _server
 
-    left, written = list(parts), []
+    left = list(parts)
+    written: List[bytes] = []
 
     def read(count: int) -> bytes:
         part = left.pop(0) if left else b""

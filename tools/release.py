@@ -37,7 +37,7 @@ from typing import Callable, Dict, List, NamedTuple, Optional, Sequence, Tuple
 TOP = Path(__file__).resolve().parent.parent
 sys.path.insert(0, str(TOP))
 
-from tools import metadata
+from tools import metadata, webassembly
 
 PARTS = TOP / "release"
 BUILT = TOP / "crates/cssq_cli/out/rlib/build"
@@ -137,6 +137,8 @@ function %s() {
 
 export default %s;
 """
+# A comment of JavaScript on lines of its own.
+COMMENT = re.compile(r"(?m)^[ \t]*(?:/\*\*(?:[^*]|\*(?!/))*\*/|//.*)\n")
 LETTERS = "".join(chr(it) for it in range(32, 127) if chr(it) not in "'\\<")
 SINGLE = len(LETTERS) - 2
 
@@ -629,25 +631,13 @@ class Release:
         # The toolchain's linker is every linker, by its name.
         linker.unlink(missing_ok=True)
         linker.symlink_to(clang)
-        whole, lowered = self.room / "whole.wasm", self.room / "lowered.wasm"
-        run(
-            linker,
-            "-mwasm64",
-            "--no-entry",
-            "--stack-first",
-            "-z",
-            "stack-size=1048576",
-            "--gc-sections",
-            *(f"--export={it}" for it in calls_of_header()),
-            "-o",
-            whole,
-            self.room / "library.o",
-            self.room / "runtime.o",
-        )
-        whole.write_bytes(without_table(whole.read_bytes()))
+        objects = self.room / "library.o", self.room / "runtime.o"
+        whole, later = linked((linker, "-mwasm64"), objects, (), self.room)
+        whole.write_bytes(webassembly.without_table(whole.read_bytes()))
+        lowered = self.room / "lowered.wasm"
         lower = ("--enable-memory64", *FEATURES, "--memory64-lowering", "--debuginfo")
         run(optimizer, whole, *lower, "-o", lowered)
-        return parted(lowered, ("simplecss_high",), self.room)
+        return parted(lowered, ("simplecss_high",), later, self.room)
 
 
 def calls_of_header() -> List[str]:
@@ -656,14 +646,35 @@ def calls_of_header() -> List[str]:
     return re.findall(r"(?m)^(?:uint32_t|void) (simplecss_\w+)\(", header)
 
 
-def parted(whole: Path, others: Sequence[str], room: Path) -> Tuple[bytes, bytes]:
+def calls_of_first() -> List[str]:
+    """Returns the names of the calls that the first WebAssembly module has."""
+    second = {f"simplecss_{it}" for it in SECOND}
+    return [it for it in calls_of_header() if it not in second]
+
+
+def linked(
+    linker: Sequence[object], objects: Sequence[Path], others: Sequence[str], room: Path
+) -> Tuple[Path, List[range]]:
+    """Returns the module of objects with all calls and other exports, and the addresses of the data that only the calls of
+    the second module use: the linker leaves it out without these."""
+    maps = []
+    for name, calls in (("first", calls_of_first()), ("whole", calls_of_header())):
+        exports = [f"--export={it}" for it in (*calls, *others)]
+        options = ["--no-entry", "--stack-first", "-z", "stack-size=1048576", "--gc-sections"]
+        listed = room / f"{name}.map"
+        run(*linker, *options, *exports, f"-Map={listed}", "-o", room / f"{name}.wasm", *objects)
+        maps.append(listed.read_text())
+    return room / "whole.wasm", webassembly.data_left_out(maps[1], maps[0])
+
+
+def parted(
+    whole: Path, others: Sequence[str], later: Sequence[range], room: Path
+) -> Tuple[bytes, bytes]:
     """Returns a module whose functions have names as two that share its memory. The second one has
-    what only its calls use, and is loaded when one of them is called. `others` are exported beside
-    the calls and what passes texts."""
+    what only its calls use, with the data at these addresses, and is loaded when one of them is called. `others`
+    are exported beside the calls and what passes texts."""
     optimizer, splitter, trimmer = map(need, ("wasm-opt", "wasm-split", "wasm-metadce"))
-    second = [f"simplecss_{it}" for it in SECOND]
-    calls = [it for it in calls_of_header() if it not in second]
-    kept = [*calls, "simplecss_take", "simplecss_reset", *others, "memory"]
+    kept = [*calls_of_first(), "simplecss_take", "simplecss_reset", *others, "memory"]
     graph, trimmed = room / "graph.json", room / "trimmed.wasm"
     nodes = [{"name": it, "export": it, "root": True} for it in kept]
     graph.write_text(json.dumps(nodes))
@@ -675,10 +686,12 @@ def parted(whole: Path, others: Sequence[str], room: Path) -> Tuple[bytes, bytes
     parts = room / "first.wasm", room / "second.wasm"
     to = ("-o1", parts[0], "-o2", parts[1], "--export-prefix=%")
     run(splitter, whole, *FEATURES, f"--keep-funcs=@{names}", *to)
+    first, data = webassembly.without_data(parts[0].read_bytes(), later)
+    parts[0].write_bytes(first)
     for part in parts:
         small = ("--strip-debug", "--strip-producers", "-Oz")
         run(optimizer, part, *FEATURES, *small, "-o", part)
-    return parts[0].read_bytes(), parts[1].read_bytes()
+    return parts[0].read_bytes(), webassembly.with_data(parts[1].read_bytes(), data)
 
 
 def module_as_text(module: bytes, name: str) -> bytes:
@@ -694,13 +707,13 @@ def module_as_text(module: bytes, name: str) -> bytes:
 
 def npm_files(first: bytes, second: bytes) -> List[File]:
     """Returns the files of the npm package with these modules."""
-    parts = PARTS / "npm"
+    parts, modes = PARTS / "npm", {"cli.mjs": 0o755}
     files = [
         *(
-            File(it.name, it.read_bytes(), 0o755 if it.name == "cli.mjs" else 0o644)
-            for it in parts.iterdir()
-            if it.suffix in (".mjs", ".ts", ".md")
+            File(it.name, without_comments(it.read_text()).encode(), modes.get(it.name, 0o644))
+            for it in parts.glob("*.mjs")
         ),
+        *(File(it.name, it.read_bytes()) for it in parts.iterdir() if it.suffix in (".ts", ".md")),
         File("package.json", manifest(parts / "package.json").encode()),
         File("simplecss.wasm", first),
         File("second.wasm", second),
@@ -711,6 +724,11 @@ def npm_files(first: bytes, second: bytes) -> List[File]:
         *(File(it.name, it.read_bytes()) for it in LICENCES),
     ]
     return [*files, File("index.cjs", required_module(files).encode())]
+
+
+def without_comments(module: str) -> str:
+    """Returns a module of JavaScript without its comments, which have lines of their own: its types have those for its callers."""
+    return COMMENT.sub("", module)
 
 
 def manifest(path: Path) -> str:
@@ -773,7 +791,12 @@ def erased_modules(room: Path) -> Tuple[bytes, bytes]:
         raise Missing(f"{target} among the targets of Rust (rustup target add {target})")
     if done.returncode:
         sys.exit(f"tools/release.py: cargo failed: {done.stderr[-2000:]}")
-    return parted(room / target / "release/simplecss.wasm", ("simplecss_is_erased",), room)
+    made, others = room / target / "release", ("simplecss_is_erased",)
+    if not shutil.which("wasm-ld"):
+        return parted(made / "simplecss.wasm", others, (), room)
+    exports = (*others, "simplecss_take", "simplecss_reset")
+    whole, later = linked(("wasm-ld",), [made / "libsimplecss.a"], exports, room)
+    return parted(whole, others, later, room)
 
 
 class Erased(Release):
@@ -910,30 +933,6 @@ def module_of(lines: str) -> str:
 def digest_of(data: bytes) -> str:
     """Returns the sum of a file, as a wheel's record has it."""
     return base64.urlsafe_b64encode(hashlib.sha256(data).digest()).rstrip(b"=").decode()
-
-
-def without_table(module: bytes) -> bytes:
-    """Returns a module without its table, which has no elements: many engines refuse a table of
-    64 bits."""
-
-    def number(at: int) -> Tuple[int, int]:
-        value = shift = 0
-        while True:
-            value |= (module[at] & 127) << shift
-            at, shift = at + 1, shift + 7
-            if module[at - 1] < 128:
-                return value, at
-
-    out, at = bytearray(module[:8]), 8
-    while at < len(module):
-        start, kind = at, module[at]
-        size, inner = number(at + 1)
-        at = inner + size
-        if kind == 9:
-            sys.exit("tools/release.py: the module has elements of a table, which it would call")
-        if kind != 4:
-            out += module[start:at]
-    return bytes(out)
 
 
 def made_by(*makers: Tuple[Callable[[], None], str]) -> Dict[str, str]:

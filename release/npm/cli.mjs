@@ -102,10 +102,13 @@ function completions({ operands: [shell] }) {
 }
 
 /** Answers an editor until it says to end. Returns the status. */
-function serve() {
+async function serve() {
   // The editor is gone.
   process.stdout.on('error', () => process.exit(UNREADABLE));
-  return new Server(process.stdin, data => process.stdout.write(data)).run();
+  const status = await new Server(process.stdin, data => process.stdout.write(data)).run();
+  // The program ends now, also if the editor leaves the pipe open.
+  process.stdin.destroy();
+  return status;
 }
 
 /** Does what the words ask for, and returns the status or what will be it. */

@@ -2,7 +2,7 @@
 import { ENDS, edgesOf } from './nested.mjs';
 import { Source } from './reading.mjs';
 import { StyleSheet } from './sheet.mjs';
-import { partsOf } from './tokens.mjs';
+import { partTokens } from './tokens.mjs';
 
 /**
  * Returns the selector of a style rule that is at an index of a sheet, if the library supports it: where it begins and ends, its text,
@@ -26,7 +26,7 @@ export function selectorAt(css, index) {
 
 /** Returns the selector at an index of a list, the last one of what is before the blocks of rules in one another. */
 function selectorIn(css, heads, first, index) {
-  for (const part of partsOf(heads.at(-1))) {
+  for (const part of partTokens(heads.at(-1))) {
     const start = first + (part[0]?.start ?? 0), text = part.map(token => token.text).join(''), end = start + text.length;
     if (index < start || index > end) continue;
     const specificity = specificityOf([...heads.slice(0, -1), text], namespacesOf(css));

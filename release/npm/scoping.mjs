@@ -3,7 +3,7 @@ import { edit } from './edit.mjs';
 import { decode, encode } from './library.mjs';
 import { ENDS, edgesOf } from './nested.mjs';
 import { Source } from './reading.mjs';
-import { decoded, escape, namesIn, partsOf } from './tokens.mjs';
+import { decoded, escape, namesIn, partTokens } from './tokens.mjs';
 
 // The number of a class among the kinds of names.
 const CLASS = 1;
@@ -36,7 +36,7 @@ export function scoped(text, { prefix = '', scope }) {
 function listOf(head, change) {
   const parts = [];
   let last = 0;
-  for (const tokens of partsOf(head).filter(part => part.length > 0)) {
+  for (const tokens of partTokens(head).filter(part => part.length > 0)) {
     const { start } = tokens[0], { end } = tokens.at(-1);
     parts.push(head.slice(last, start), change(head.slice(start, end)));
     last = end;

@@ -13,8 +13,8 @@ const NO_JSON = -32700, NO_REQUEST = -32600, NO_METHOD = -32601, NO_PARAMS = -32
 // reported.
 const MOST = 2 ** 26, MOST_READ = 2 ** 22, SHOWN = 200, MOST_MARKS = 1000;
 const SEVERITIES = { error: 1, warning: 2, note: 3 }, QUICK = 'quickfix', FIX_ALL = 'source.fixAll.simplecss';
-// The url of a style sheet.
-const IS_SHEET = /^file:[^?#]*\.css(?:[?#]|$)/i, LONGEST_URL = 4096;
+// The url of a style sheet: no name of a file has the character 0.
+const IS_SHEET = /^file:[^?#\0]*\.css(?:[?#]|$)/i, LONGEST_URL = 4096;
 const decoder = new TextDecoder('utf-8', { fatal: true, ignoreBOM: true });
 
 /** A request that is not answered, and the number of the error. */

@@ -90,11 +90,11 @@ export function pseudoNames(text) {
 
 /** Returns the texts of the selectors of a list, without the blanks around each. */
 export function partsOfList(head) {
-  return partsOf(head).map(part => part.map(token => token.text).join(''));
+  return partTokens(head).map(part => part.map(token => token.text).join(''));
 }
 
 /** Returns the tokens of each selector of a list, without the blanks around it. */
-export function partsOf(head) {
+export function partTokens(head) {
   const parts = [[]];
   let depth = 0;
   for (const token of tokens(head)) {
