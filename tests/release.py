@@ -1478,6 +1478,46 @@ TypeError undefined the grammar of the Rust crate has no namespaces
 
 
 # A sheet that is explained, in which each criterion decides once.
+# What the first module answers, of pages, sheets and selectors, asked twice.
+FIRST_ALONE = """
+import { readFileSync } from 'node:fs';
+import * as css from 'simplecss/core';
+
+const [pages, sheets, selectors] = JSON.parse(readFileSync('work.json', 'utf8'));
+const OPTIONS = [{ grammar: 'modern' }, { grammar: 'simplecss' }];
+
+function* asked() {
+  const trees = pages.map(([isHTML, page]) => isHTML ? css.Tree.fromHTML(page) : css.Tree.fromXML(page));
+  for (const tree of trees) {
+    for (const selector of selectors) for (const each of OPTIONS) yield () => tree.select(selector, each).map(it => it.index);
+  }
+  for (const [index, text] of sheets.entries()) {
+    const tree = trees[index % trees.length], data = new TextEncoder().encode(text);
+    for (const each of OPTIONS) yield () => new css.StyleSheet(text, each);
+    for (const each of OPTIONS) yield () => [...new css.StyleSheet(text, each).styles(tree).values()];
+    yield () => [...new css.StyleSheet(text).explain(tree, 'color').values()];
+    yield () => [...new css.StyleSheet(text).match(tree, { media: 'print' }).values()];
+    yield () => new css.StyleSheet(text).unused(tree);
+    for (const call of ['minify', 'prettify', 'taken', 'declarations', 'escape', 'quote']) yield () => css[call](text);
+    yield () => [...css.tokens(text)];
+    yield () => css.encodingOf(data);
+  }
+}
+
+function answers() {
+  return JSON.stringify([...asked()].map(call => {
+    try {
+      return call();
+    } catch (error) {
+      return `${error.name}: ${error.message}`;
+    }
+  }));
+}
+
+const before = answers();
+await css.lint('a { tpo: 0; color: x }');
+console.log(JSON.stringify([[...asked()].length, before === answers()]));
+"""
 EXPLAINED = """@layer base { li { color: red !important } }
 @layer x { @layer { li, p { color: blue; background: red } } }
 body { color: black } li { color: green } li { color: lime } :is(li) a { color: teal }
@@ -1978,6 +2018,16 @@ class Npm(Release):
         words = [*node, os.path.join(folder, "cli.mjs"), "--version"]
         done = self.works(words, "the command", env=environment)
         self.assertEqual(done.stdout.decode(), f"simplecss {version()}\n")
+
+    def test_first_alone(self) -> None:
+        """What the first module answers is the same before and after the second one is loaded, with its data."""
+        self.unpacked()
+        pages = [[kind == "text/html", page] for kind, page in PAGES] + [[False, XML_PAGE]]
+        sheets = [*SHEETS, *modern_texts(count(100)), *nested_texts(count(100)), USED, EXPLAINED]
+        write(os.path.join(self.folder, "work.json"), json.dumps([pages, sheets, SELECTORS]))
+        asked, is_same = json.loads(self.program(FIRST_ALONE))
+        self.assertGreater(asked, 500)
+        self.assertTrue(is_same)
 
     def test_size(self) -> None:
         """What `simplecss/core` imports is as small, compressed, as the documents say."""
