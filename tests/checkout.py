@@ -1061,8 +1061,6 @@ class JavaScript(Checkout, release.Npm):
     """The npm package that a checkout makes. Its module stops where a sum leaves 32 bits."""
 
     IS_PROVED = "false"
-    # The tests of sums take room.
-    MOST = 450_000
 
     def put(self, folder: str) -> None:
         made = os.path.join(clean_folder(), "npm")
