@@ -115,12 +115,13 @@ export function print(text) {
 
 // ---- what is written
 
-/** Returns the files that texts of others are written into: the output, or one in it of the same name if that is a folder. */
+/** Returns the files that texts of others are written into: the output, or one in it of the same name if that is a folder. Folders are made. */
 export function outputsOf(output, files) {
-  const isFolder = files.length !== 1 || /[/\\]$/.test(output) || statSync(output, MAYBE)?.isDirectory();
+  let isFolder = files.length !== 1 || /[/\\]$/.test(output);
+  wrote(output, () => { isFolder ||= statSync(output, MAYBE)?.isDirectory(); });
   const paths = files.map(file => isFolder ? join(output, basename(file)) : output);
   if (new Set(paths).size < paths.length) throw new Failure(USAGE_ERROR, 'two of the pages have one name');
-  if (isFolder) wrote(output, () => mkdirSync(output, { recursive: true }));
+  wrote(output, () => mkdirSync(isFolder ? output : dirname(output), { recursive: true }));
   return paths;
 }
 
