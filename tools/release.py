@@ -147,6 +147,10 @@ class Missing(Exception):
     """A tool that the system lacks."""
 
 
+class Failed(SystemExit):
+    """A program that failed."""
+
+
 class File(NamedTuple):
     """A file of an archive, or a link to another one."""
 
@@ -162,9 +166,8 @@ def run(*words: object, cwd: Path = TOP) -> bytes:
         list(map(str, words)), cwd=cwd, stdin=subprocess.DEVNULL, capture_output=True, check=False
     )
     if done.returncode:
-        sys.exit(
-            f"tools/release.py: {words[0]} failed: {(done.stdout + done.stderr).decode()[-2000:]}"
-        )
+        said = (done.stdout + done.stderr).decode()[-2000:]
+        raise Failed(f"tools/release.py: {words[0]} failed: {said}")
     return done.stdout
 
 
@@ -791,12 +794,21 @@ def erased_modules(room: Path) -> Tuple[bytes, bytes]:
         raise Missing(f"{target} among the targets of Rust (rustup target add {target})")
     if done.returncode:
         sys.exit(f"tools/release.py: cargo failed: {done.stderr[-2000:]}")
-    made, others = room / target / "release", ("simplecss_is_erased",)
-    if not shutil.which("wasm-ld"):
-        return parted(made / "simplecss.wasm", others, (), room)
-    exports = (*others, "simplecss_take", "simplecss_reset")
-    whole, later = linked(("wasm-ld",), [made / "libsimplecss.a"], exports, room)
-    return parted(whole, others, later, room)
+    return parted(*erased_linked(room / target / "release", room), room)
+
+
+def erased_linked(made: Path, room: Path) -> Tuple[Path, Sequence[str], Sequence[range]]:
+    """Returns the module that cargo has made, what it exports beside the calls, and the addresses of the data that only the
+    calls of the second module use: none without a linker that reads what the compiler writes."""
+    others, linker = ("simplecss_is_erased",), shutil.which("wasm-ld")
+    if linker:
+        exports = (*others, "simplecss_take", "simplecss_reset")
+        try:
+            whole, later = linked((linker,), [made / "libsimplecss.a"], exports, room)
+            return whole, others, later
+        except Failed:
+            pass
+    return made / "simplecss.wasm", others, ()
 
 
 class Erased(Release):
