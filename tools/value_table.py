@@ -31,6 +31,20 @@ RESET = {"border": "border-image"}
 # With these words the keywords of Chromium begin.
 FIRST_WORDS = b"inherit\0initial\0none\0hidden\0inset\0groove\0"
 COLORS = "color"
+# The properties that take a number as a length in quirks mode, and those that take three or six hexadecimal
+# digits as a colour (Quirks Mode Standard, sections 3.1 and 3.2; `mask-position` only in Chromium).
+QUIRKY_LENGTHS = (
+    "background-position border-bottom-width border-left-width border-right-width "
+    "border-spacing border-top-width border-width bottom font-size height left "
+    "letter-spacing margin margin-bottom margin-left margin-right margin-top "
+    "mask-position max-height max-width min-height min-width padding padding-bottom "
+    "padding-left padding-right padding-top right text-indent top vertical-align "
+    "width word-spacing"
+)
+QUIRKY_COLORS = (
+    "background-color border-bottom-color border-color border-left-color "
+    "border-right-color border-top-color color"
+)
 # How many values a keyword is tried beside.
 CONTEXTS = 8
 WIDTH = 84
@@ -577,6 +591,14 @@ pub const PREFIXED: &str = "\\
 
 /// The functions with another value in their place. With one of them anything may be in a value.
 pub const SUBSTITUTED: &str = "attr env if inherit random-item var";
+
+/// The properties that take a number as a length in quirks mode.
+pub const QUIRKY_LENGTHS: &str = "\\
+    {literal(QUIRKY_LENGTHS)}";
+
+/// The properties that take three or six hexadecimal digits as a colour in quirks mode.
+pub const QUIRKY_COLORS: &str = "\\
+    {literal(QUIRKY_COLORS)}";
 
 /// For each of some properties, between bars: the names; how many components their values have, or
 /// 0 for any number; the classes and the words of what is valid alone; and those of what may be in

@@ -39,14 +39,14 @@ sets-more in_block end start rest later from out all p read is_from is_start wro
     (wrote ∙ ap (λ (s : ℕ). out ++ set_of_item s (length p.text) p.item) is_start)
 
 -- the same of declarations whose values no browser takes
-pub refused-more : (in_block : Bool) (end start : ℕ) (rest later from : List ℕ) (out all : List PlaceText)
+pub refused-more : (in_quirks in_block : Bool) (end start : ℕ) (rest later from : List ℕ) (out all : List PlaceText)
     (p : ListText)
     → next_item in_block rest ≡ Some (p, later) → from ≡ past_separators rest
-    → start ≡ end - length from → all ≡ out ++ refused_item start (length p.text) p.item
-    → all ++ refused_in in_block end later ≡ out ++ refused_in in_block end rest
-refused-more in_block end start rest later from out all p read is_from is_start wrote =
-    items-more (refused_at end) in_block rest later from out all p read is_from
-    (wrote ∙ ap (λ (s : ℕ). out ++ refused_item s (length p.text) p.item) is_start)
+    → start ≡ end - length from → all ≡ out ++ refused_item in_quirks start (length p.text) p.item
+    → all ++ refused_in in_quirks in_block end later ≡ out ++ refused_in in_quirks in_block end rest
+refused-more in_quirks in_block end start rest later from out all p read is_from is_start wrote =
+    items-more (refused_at in_quirks end) in_block rest later from out all p read is_from
+    (wrote ∙ ap (λ (s : ℕ). out ++ refused_item in_quirks s (length p.text) p.item) is_start)
 
 -- no item is left
 pub items-done : {B : Type 0} (make : PlacedItem → List B) (in_block : Bool) (rest : List ℕ)

@@ -1,7 +1,7 @@
 -- Values that no browser takes, as far as a table says: by the value definitions of the standards (CSS Values and
 -- Units 4, section 2), and by what browsers take beside them. Of a property that the table does not have, and of a
 -- value that it does not tell apart from others, nothing is refused.
-use Rattle.std.specs.Prelude.{ℕ, ◌-◌, Bool, true, false, not, ◌||◌, ◌&&◌, ◌==◌, nat_lt, if◌then◌else◌, List, [], ◌∷◌, length, max, Option, Some, None}
+use Rattle.std.specs.Prelude.{ℕ, ◌-◌, Bool, true, false, not, ◌||◌, ◌&&◌, ◌==◌, nat_le, nat_lt, if◌then◌else◌, List, [], ◌∷◌, length, max, Option, Some, None}
 use Rattle.std.specs.List.{flat_map, list_any, prefix_len}
 use Rattle.std.specs.Char.{to_ascii_lowercase}
 use Rattle.css_text.specs.AsciiBytes.{hyphen}
@@ -11,7 +11,7 @@ use Rattle.css_syntax.specs.TokenLists.{PlacedToken, tokens}
 use Rattle.css_syntax.specs.Tokens.{spells}
 use Rattle.css_syntax.specs.declared.tokenizer.TokenKind.{TokenKind}
 use Rattle.css_syntax.specs.declared.tokenizer.TokenKind.TheVariants as kinds
-use Rattle.css_values.specs.declared.value_data.TheConstants.{COLOR_WORDS, PREFIXED, SUBSTITUTED, UNIT_CLASSES, VALUES, WIDE_WORDS}
+use Rattle.css_values.specs.declared.value_data.TheConstants.{COLOR_WORDS, PREFIXED, QUIRKY_COLORS, QUIRKY_LENGTHS, SUBSTITUTED, UNIT_CLASSES, VALUES, WIDE_WORDS}
 use Rattle.css_values.specs.Names.{cut, is_named_in, parts_between}
 
 -- ---- words
@@ -47,12 +47,13 @@ is_bare_color word =
 
 -- ---- components
 
--- A component of a value: a word; a number without a unit; a percentage, a number with a unit, a colour after a number
--- sign, a string or a url, by the letter of its class; a comma or a slash; a function of a vendor that no browser
--- knows; a function with another value in its place; or one of which the table says nothing.
+-- A component of a value: a word; a number without a unit, which is not zero or zero; a percentage, a number with a unit,
+-- a colour after a number sign, a string or a url, by the letter of its class; a comma or a slash; a function of a vendor
+-- that no browser knows; a function with another value in its place; or one of which the table says nothing.
 pub data Component : Type 0 where
   word : List ℕ → Component
   number : Component
+  zero : Component
   classed : ℕ → Component
   sign : Component
   foreign : Component
@@ -76,6 +77,16 @@ unit_class unit = class_in (parts_between 10 UNIT_CLASSES.now) unit
 abbrev pub dimension : Option ℕ → Component
 dimension None = other
 dimension (Some letter) = classed letter
+
+-- a number has no digit but 0 before its exponent, if it has one
+abbrev pub is_zero : (number : List ℕ) → Bool
+is_zero [] = true
+is_zero (b ∷ text) =
+    if to_ascii_lowercase b == 101 then true
+    else (if nat_le 49 b && nat_le b 57 then false else is_zero text)
+
+abbrev pub number_component : List ℕ → Component
+number_component text = if is_zero text then zero else number
 
 -- what an author names, and what browsers have of their own, is not in the table
 abbrev pub word_component : List ℕ → Component
@@ -107,7 +118,7 @@ component_by kinds.String t = Some (classed 115)
 component_by kinds.BadString t = Some other
 component_by kinds.Url t = Some (classed 117)
 component_by kinds.BadUrl t = Some other
-component_by kinds.Number t = Some number
+component_by kinds.Number t = Some (number_component (inside t))
 component_by kinds.Percentage t = Some (classed 112)
 component_by kinds.Dimension t = Some (dimension (unit_class (inside t)))
 component_by kinds.Cdo t = Some other
@@ -126,10 +137,24 @@ components value = flat_map of_token (tokens value)
 
 -- ---- rows
 
--- what some components are: the letters of classes, and words
+-- what a property takes in quirks mode beside its other values: numbers as lengths, or numbers and words of hexadecimal
+-- digits as colours
+pub record Quirks : Type 0 where
+  pub lengths : Bool
+  pub colors : Bool
+
+-- Where a page is in quirks mode, the properties of two lists take these (Quirks Mode Standard, sections 3.1 and 3.2).
+abbrev pub quirks_named : (in_quirks : Bool) → (name : List ℕ) → Quirks
+quirks_named in_quirks name = record {
+  lengths = in_quirks && is_listed QUIRKY_LENGTHS.now name;
+  colors = in_quirks && is_listed QUIRKY_COLORS.now name;
+}
+
+-- what some components are: the letters of classes, words, and what is taken in quirks mode
 pub record Sorts : Type 0 where
   pub letters : List ℕ
   pub words : List ℕ
+  pub quirks : Quirks
 
 -- The values of a property: how many components they have, or 0 for any number; what is a value alone, and in
 -- values with a greatest number of components; and what is in the others.
@@ -144,17 +169,17 @@ digit [] = 0
 digit (b ∷ []) = b - 48
 digit (b ∷ (c ∷ text)) = 0
 
--- a row of four fields with bars between them
-abbrev pub row_in : List ℕ → Row
-row_in text =
+-- a row of four fields with bars between them, with what is taken in quirks mode
+abbrev pub row_in : Quirks → List ℕ → Row
+row_in quirks text =
     let most = cut 124 text in
     let letters = cut 124 most.1 in
     let words = cut 124 letters.1 in
     let others = cut 124 words.1 in
     record {
       most = digit most.0;
-      alone = record { letters = letters.0; words = words.0 };
-      parts = record { letters = others.0; words = others.1 };
+      alone = record { letters = letters.0; words = words.0; quirks = quirks };
+      parts = record { letters = others.0; words = others.1; quirks = quirks };
     }
 
 -- The row of the last line that has the name, or else what was found before. The names of a line are before a bar,
@@ -181,17 +206,23 @@ abbrev pub word_fits : Sorts → List ℕ → Bool
 word_fits sorts text =
     has_letter sorts.letters 119 || is_listed sorts.words text
     || has_letter sorts.letters 99 && is_color_word text
-    || has_letter sorts.letters 104 && is_bare_color text || is_wide text
+    || sorts.quirks.colors && is_bare_color text || is_wide text
 
--- a number fits where a length does, since it is one in quirks mode
+-- a number fits where integers or numbers do, and in quirks mode as a length or a colour
 abbrev pub number_fits : Sorts → Bool
 number_fits sorts =
-    has_letter sorts.letters 48 || has_letter sorts.letters 105 || has_letter sorts.letters 110
-    || has_letter sorts.letters 108
+    has_letter sorts.letters 105 || has_letter sorts.letters 110 || sorts.quirks.lengths
+    || sorts.quirks.colors
+
+-- zero fits where a number does, and as a length
+abbrev pub zero_fits : Sorts → Bool
+zero_fits sorts =
+    has_letter sorts.letters 48 || has_letter sorts.letters 108 || number_fits sorts
 
 abbrev pub fits : Sorts → Component → Bool
 fits sorts (word text) = word_fits sorts text
 fits sorts number = number_fits sorts
+fits sorts zero = zero_fits sorts
 fits sorts (classed letter) = has_letter sorts.letters letter
 fits sorts sign = true
 fits sorts foreign = true
@@ -249,10 +280,10 @@ is_refused_by row found all =
 abbrev pub is_refused : Row → List Component → Bool
 is_refused row all = is_refused_by row (found_in all) all
 
-abbrev pub refused_if : Option (List ℕ) → (value : List ℕ) → Bool
-refused_if None value = false
-refused_if (Some row) value = is_refused (row_in row) (components value)
+abbrev pub refused_if : Option (List ℕ) → Quirks → (value : List ℕ) → Bool
+refused_if None quirks value = false
+refused_if (Some row) quirks value = is_refused (row_in quirks row) (components value)
 
--- the table says that no browser takes the value of a property of this name
-unfoldable pub refuses : (name value : List ℕ) → Bool
-refuses name value = refused_if (row_named name) value
+-- the table says that no browser takes the value of a property of this name, where a page is in quirks mode or in another
+unfoldable pub refuses : (in_quirks : Bool) → (name value : List ℕ) → Bool
+refuses in_quirks name value = refused_if (row_named name) (quirks_named in_quirks name) value

@@ -10,15 +10,20 @@ ghost use Rattle.css_values.specs.Refused.{has_letter as has_letter_of, has_unfi
 ghost use Rattle.css_values.specs.Refused.{is_bare_color as is_bare_color_of, is_color_word as is_color_word_of};
 ghost use Rattle.css_values.specs.Refused.{is_listed as is_listed_of, is_prefixed as is_prefixed_of, is_refused as is_refused_of, is_unfit as is_unfit_of};
 ghost use Rattle.css_values.specs.Refused.{is_substituted as is_substituted_of, is_wide as is_wide_of};
-ghost use Rattle.css_values.specs.Refused.{number_fits as number_fits_of, refuses as refuses_of, row_in, row_named};
+ghost use Rattle.css_values.specs.Refused.{is_zero as is_zero_of, number_component as number_component_of, quirks_named};
+ghost use Rattle.css_values.specs.Refused.{number_fits as number_fits_of, zero_fits as zero_fits_of};
+ghost use Rattle.css_values.specs.Refused.{refuses as refuses_of, row_in, row_named};
 ghost use Rattle.css_values.specs.Refused.{digit as digit_of, dimension as dimension_of, letter_of as letter_of_text};
 ghost use Rattle.css_values.specs.Refused.{listed_component, of_token, unit_class as unit_class_of, unmarked as unmarked_of};
 ghost use Rattle.css_values.specs.Refused.{word_component as word_component_of, word_fits as word_fits_of};
-ghost use Rattle.css_values.specs.RefusedViews.{component_of as component_view, found_of, row_of, sorts_of};
+ghost use Rattle.css_values.specs.RefusedViews.{component_of as component_view, found_of, quirks_of as quirks_view, row_of, sorts_of};
 ghost use Rattle.css_values.specs.internal.Joined.{joined, row_at};
 
 use crate::names::{cut, part_before};
-use crate::value_data::{COLOR_WORDS, PREFIXED, SUBSTITUTED, UNIT_CLASSES, VALUES, WIDE_WORDS};
+use crate::value_data::{
+    COLOR_WORDS, PREFIXED, QUIRKY_COLORS, QUIRKY_LENGTHS, SUBSTITUTED, UNIT_CLASSES, VALUES,
+    WIDE_WORDS,
+};
 use css_syntax::tokenizer::read_next;
 use css_syntax::tokens::spells;
 use css_syntax::{Token, TokenKind};
@@ -31,8 +36,10 @@ use std::marker::Model;
 enum Component<'t> {
     /// A word.
     Word(&'t [u8]),
-    /// A number without a unit.
+    /// A number without a unit that is not zero.
     Number,
+    /// A number without a unit that is zero.
+    Zero,
     /// A percentage, a number with a unit, a colour after a number sign, a string or a url, by the letter of
     /// its class.
     Classed(u8),
@@ -46,11 +53,20 @@ enum Component<'t> {
     Other,
 }
 
-/// What some components are: the letters of classes, and words.
+/// What a property takes in quirks mode beside its other values: numbers as lengths, or numbers and words of hexadecimal
+/// digits as colours.
+#[derive(Clone, Copy)]
+struct Quirks {
+    lengths: bool,
+    colors: bool,
+}
+
+/// What some components are: the letters of classes, words, and what is taken in quirks mode.
 #[derive(Clone, Copy)]
 struct Sorts<'r> {
     letters: &'r str,
     words: &'r str,
+    quirks: Quirks,
 }
 
 /// The values of a property.
@@ -152,6 +168,34 @@ fn hex_count(bytes: &[u8]) -> usize
         .count()
 }
 
+/// Whether a number has no digit but 0 before its exponent.
+fn is_zero(number: &[u8]) -> bool
+    ensures { result ≡ is_zero_of number.now }
+{
+    let mut rest = number;
+    'digits: while let [first, others @ ..] = rest {
+        if first.to_ascii_lowercase() == b'e' {
+            return true;
+        }
+        if matches!(*first, b'1'..=b'9') {
+            return false;
+        }
+        rest = others;
+    }
+    true
+}
+
+/// Returns what a number without a unit is.
+fn number_component(number: &[u8]) -> Component<'static>
+    ensures { component_view result ≡ number_component_of number.now }
+{
+    if is_zero(number) {
+        Component::Zero
+    } else {
+        Component::Number
+    }
+}
+
 /// Whether a word is a colour without its number sign.
 fn is_bare_color(word: &[u8]) -> bool
     ensures { result ≡ is_bare_color_of word.now }
@@ -251,7 +295,7 @@ fn component_of<'t>(token: &Token<'t>) -> Option<Component<'t>>
         TokenKind::Hash | TokenKind::IdHash => Some(Component::Classed(b'h')),
         TokenKind::String => Some(Component::Classed(b's')),
         TokenKind::Url => Some(Component::Classed(b'u')),
-        TokenKind::Number => Some(Component::Number),
+        TokenKind::Number => Some(number_component(inside(token))),
         TokenKind::Percentage => Some(Component::Classed(b'p')),
         TokenKind::Dimension => Some(dimension(inside(token))),
         TokenKind::Delim => Some(byte_component(token.from)),
@@ -323,7 +367,7 @@ fn word_fits(sorts: Sorts<'_>, word: &[u8]) -> bool
     has_letter(sorts.letters, b'w')
         || is_listed(sorts.words, word)
         || has_letter(sorts.letters, b'c') && is_color_word(word)
-        || has_letter(sorts.letters, b'h') && is_bare_color(word)
+        || sorts.quirks.colors && is_bare_color(word)
         || is_wide(word)
 }
 
@@ -331,10 +375,17 @@ fn word_fits(sorts: Sorts<'_>, word: &[u8]) -> bool
 fn number_fits(sorts: Sorts<'_>) -> bool
     ensures { result ≡ number_fits_of (sorts_of sorts.entry) }
 {
-    has_letter(sorts.letters, b'0')
-        || has_letter(sorts.letters, b'i')
+    has_letter(sorts.letters, b'i')
         || has_letter(sorts.letters, b'n')
-        || has_letter(sorts.letters, b'l')
+        || sorts.quirks.lengths
+        || sorts.quirks.colors
+}
+
+/// Whether zero without a unit is of these sorts.
+fn zero_fits(sorts: Sorts<'_>) -> bool
+    ensures { result ≡ zero_fits_of (sorts_of sorts.entry) }
+{
+    has_letter(sorts.letters, b'0') || has_letter(sorts.letters, b'l') || number_fits(sorts)
 }
 
 /// Whether a component is of these sorts, or one that only other components decide on.
@@ -344,6 +395,7 @@ fn fits(sorts: Sorts<'_>, component: Component<'_>) -> bool
     match component {
         Component::Word(word) => word_fits(sorts, word),
         Component::Number => number_fits(sorts),
+        Component::Zero => zero_fits(sorts),
         Component::Classed(letter) => has_letter(sorts.letters, letter),
         Component::Sign | Component::Foreign | Component::Substituted | Component::Other => true,
     }
@@ -383,9 +435,19 @@ fn digit(text: &str) -> usize
     }
 }
 
-/// Returns a row of the table.
-fn read_row(text: &str) -> Row<'_>
-    ensures { row_of result ≡ row_in text.now }
+/// Returns what a property of this name takes in quirks mode beside its other values, and nothing in another mode.
+fn quirks_of(name: &str, in_quirks: bool) -> Quirks
+    ensures { quirks_view result ≡ quirks_named in_quirks name.now }
+{
+    Quirks {
+        lengths: in_quirks && is_listed(QUIRKY_LENGTHS, name.as_bytes()),
+        colors: in_quirks && is_listed(QUIRKY_COLORS, name.as_bytes()),
+    }
+}
+
+/// Returns a row of the table, with what is taken in quirks mode.
+fn read_row(text: &str, quirks: Quirks) -> Row<'_>
+    ensures { row_of result ≡ row_in (quirks_view quirks) text.now }
 {
     let most = cut(text, b'|');
     let letters = cut(most.rest, b'|');
@@ -396,10 +458,12 @@ fn read_row(text: &str) -> Row<'_>
         alone: Sorts {
             letters: letters.front,
             words: words.front,
+            quirks,
         },
         parts: Sorts {
             letters: others.front,
             words: others.rest,
+            quirks,
         },
     }
 }
@@ -493,14 +557,15 @@ impl RefusedValues {
     /// Whether no browser takes a value of a property, as far as the table says. The name of the property is in lower
     /// case; of another one nothing is known, as of a custom property. A value with a function, with a bracket or
     /// with a word that only some browsers have is refused only for a function with a vendor's prefix that none has.
+    /// In quirks mode some properties take numbers as lengths and as colours; conditions are read in no such mode.
     ///
     /// The time is linear in the value, times the row of the property.
     #[tactic(auto, unfolding(crate::specs::Refused::refuses))]
-    pub fn refuses(&self, name: &str, value: &[u8]) -> bool
-        ensures { result ≡ refuses_of name.now value.now }
+    pub fn refuses(&self, name: &str, value: &[u8], in_quirks: bool) -> bool
+        ensures { result ≡ refuses_of in_quirks name.now value.now }
     {
         match self.rows.get(name) {
-            Some(row) => is_refused(read_row(row), value),
+            Some(row) => is_refused(read_row(row, quirks_of(name, in_quirks)), value),
             None => false,
         }
     }

@@ -1,2 +1,2 @@
 pub mod Linting
-pub mod RefusedValues
+pub mod Taken

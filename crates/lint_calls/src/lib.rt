@@ -2,4 +2,4 @@
 #![tactic(auto)]
 
 pub mod lint;
-pub mod refused;
+pub mod taken;

@@ -25,7 +25,7 @@ const ABOUT: usize = 4;
 const VALUES: usize = 8;
 
 /// Whether a sum of different powers of two has this one.
-fn has_power(power: usize, asked: usize) -> bool
+pub(crate) fn has_power(power: usize, asked: usize) -> bool
     requires { 0 < power }
     ensures { result ≡ has_power_of power asked }
 {

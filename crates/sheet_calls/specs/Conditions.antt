@@ -161,9 +161,9 @@ IsMediaCall text numbers (Err failure) =
 abbrev pub is_custom : List ℕ → Bool
 is_custom name = starts_two hyphen hyphen name && not (is_end (drop 2 name))
 
--- the table of values says that no browser takes the value of a property of this name
+-- The table of values says that no browser takes the value of a property of this name. No condition is read in quirks mode.
 abbrev pub is_refused : List ℕ → List ℕ → Bool
-is_refused name value = is_utf8 name && refuses name value
+is_refused name value = is_utf8 name && refuses false name value
 
 -- A declaration is supported if it is one of a custom property, or if its property is known, and the value is
 -- not empty, nor one that no browser takes as far as the table of values says.

@@ -311,7 +311,7 @@ fn is_refused(values: &RefusedValues, name: &[u8], value: &[u8]) -> bool
     ensures { result ≡ is_refused_of name.now value.now }
 {
     match std::str::from_utf8(name) {
-        Ok(name) => values.refuses(name, value),
+        Ok(name) => values.refuses(name, value, false),
         Err(_) => false,
     }
 }

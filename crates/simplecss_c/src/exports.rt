@@ -6,26 +6,26 @@
 //! 6 nothing was written, and `len` is the length that the call needs. At any other status nothing was
 //! written, and `len` is 0. `fault` is set at 2 only.
 
-ghost use Rattle.std.specs.Prelude.{nat_eq, not};
-ghost use Rattle.call_answers.specs.Answers.{IsAnswered, IsAnsweredOfTree, IsHandedOver};
+ghost use Rattle.call_answers.specs.Answers.{Answers, IsAnswered, IsAnsweredOfTree, IsHandedOver};
 ghost use Rattle.call_answers.specs.Calls.{IsCloseCall, passed_of};
+ghost use Rattle.call_answers.specs.Outcomes.{numbers_outcome};
 ghost use Rattle.port_calls.specs.PortCalls.{IsPortCall, question_of as question_of_port};
 ghost use Rattle.sheet_calls.specs.Conditions.{IsMediaCall, IsSupportsCall};
 ghost use Rattle.call_answers.specs.ItemNumbers.{IsDeclarationsCall};
 ghost use Rattle.sheet_calls.specs.NumberLines.{IsTokensCall, IsNamesCall};
 ghost use Rattle.lint_calls.specs.Linting.{IsLintCall};
-ghost use Rattle.lint_calls.specs.RefusedValues.{IsRefusedCall};
+ghost use Rattle.lint_calls.specs.Taken.{IsTakenCall};
 ghost use Rattle.sheet_calls.specs.Spellings.{IsSpellCall};
 ghost use Rattle.sheet_calls.specs.Values.{IsPropertyCall, IsResolveCall, IsValidCall, question_of};
 ghost use Rattle.simplecss_calls.specs.Grammars.{grammar_of};
 ghost use Rattle.simplecss_calls.specs.GrammarCalls.{IsMatchSelectorsCall, IsRefusalCall};
 
 use call_answers::answer::{
-    TreeFault, copy_whole, hand_over, hand_over_numbers, hand_over_of_tree, hand_over_truth,
+    CallError, TreeFault, copy_whole, hand_over, hand_over_numbers, hand_over_of_tree, hand_over_truth,
 };
 use call_answers::elements::PassedTree;
 use css_values::{INHERITED, LOGICAL, SHORTHANDS};
-use lint_calls::{lint, refused};
+use lint_calls::{lint, taken};
 use port_calls::port;
 use sheet_calls::conditions::DeviceNumbers;
 use sheet_calls::{conditions, spellings, tokens, values};
@@ -113,23 +113,36 @@ pub extern "C" fn simplecss_lint(
     hand_over(lint::lint(alloc, text, asked), out, len)
 }
 
-/// Writes two numbers of each declaration of a style sheet whose value no browser takes, or of a style attribute if
-/// `attribute` is not 0: where it begins and ends.
-#[unsafe(no_mangle)]
-pub extern "C" fn simplecss_refused_values(
-    alloc: Global,
-    text: &[u8],
-    attribute: usize,
-    out: &mut [usize],
+/// Hands over bytes, and returns the status of the call.
+fn hand_over_bytes(
+    outcome: Result<Vec<u8>, CallError>,
+    out: &mut [u8],
     len: &mut usize,
 ) -> u32
-    ensures { IsAnswered (IsRefusedCall (not (nat_eq attribute 0)) text.now) result out.old out.new len.new }
+    ensures { Answers (numbers_outcome outcome) result out.old out.new len.new }
 {
-    hand_over_numbers(
-        refused::refused_values(alloc, text, attribute != 0),
-        out,
-        len,
-    )
+    match outcome {
+        Ok(bytes) => copy_whole(bytes.as_slice(), out, len),
+        Err(failure) => {
+            *len = 0;
+            failure.status()
+        }
+    }
+}
+
+/// Writes a style sheet with spaces in place of each declaration whose value no browser takes; or a style attribute if `asked`
+/// has 1 in it. If it has 2 in it, the page is in quirks mode.
+#[unsafe(no_mangle)]
+pub extern "C" fn simplecss_taken(
+    alloc: Global,
+    text: &[u8],
+    asked: usize,
+    out: &mut [u8],
+    len: &mut usize,
+) -> u32
+    ensures { IsAnswered (IsTakenCall asked text.now) result out.old out.new len.new }
+{
+    hand_over_bytes(taken::taken(alloc, text, asked), out, len)
 }
 
 /// Writes the value of a declaration with what closes it, where the end of the text left a string, a

@@ -14,7 +14,7 @@ items-smaller c =
 pub items-preserved : goal.items-preserved
 items-preserved c = (
   search rules,
-  refused-more c.args.in_block c.args.end c.saturating_sub-start.result c.items.rest.now
+  refused-more c.args.values.in_quirks c.args.in_block c.args.end c.saturating_sub-start.result c.items.rest.now
       c.in-Some.part.rest.now c.in-Some.part.from.now (map place_of c.items.found.items)
       (map place_of c.push_item.new.found.items) (list_part_of c.in-Some.part.part)
       c.in-Some.ensures.read c.in-Some.ensures.from c.saturating_sub-start.ensures
@@ -24,6 +24,6 @@ items-preserved c = (
 
 pub returns : goal.returns
 returns c =
-    items-done (refused_at c.args.end) c.args.in_block c.items.rest.now (map place_of c.items.found.items)
-    (map place_of c.args.found.now.items ++ refused_in c.args.in_block c.args.end c.args.text.now)
+    items-done (refused_at c.args.values.in_quirks c.args.end) c.args.in_block c.items.rest.now (map place_of c.items.found.items)
+    (map place_of c.args.found.now.items ++ refused_in c.args.values.in_quirks c.args.in_block c.args.end c.args.text.now)
     (rw c.in_default.is at c.read_part.ensures.read) c.items.invariant.1

@@ -9,8 +9,8 @@ use Rattle.css_lint.proofs.refused.push_items.Given as goal
 abbrev pub invariant-items : goal.invariant-items
 invariant-items l =
     shadow (Utf8 l.rest)
-    × (map place_of l.found.items ++ refused_in l.in_block l.end l.rest
-    ≡ map place_of l.fn.found.items ++ refused_in l.in_block l.end l.text)
+    × (map place_of l.found.items ++ refused_in l.values.in_quirks l.in_block l.end l.rest
+    ≡ map place_of l.fn.found.items ++ refused_in l.values.in_quirks l.in_block l.end l.text)
 
 abbrev pub decreases-items : goal.decreases-items
 decreases-items l = length l.rest

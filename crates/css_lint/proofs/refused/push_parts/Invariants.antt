@@ -8,8 +8,8 @@ use Rattle.css_lint.proofs.refused.push_parts.Given as goal
 -- those so far, and those of the rest
 abbrev pub invariant-parts : goal.invariant-parts
 invariant-parts l =
-    map place_of l.found.items ++ flat_map refused_content (map (content_of l.size) l.left)
-    ≡ map place_of l.initial.found.items ++ flat_map refused_content (map (content_of l.size) l.parts)
+    map place_of l.found.items ++ flat_map (refused_content l.values.in_quirks) (map (content_of l.size) l.left)
+    ≡ map place_of l.initial.found.items ++ flat_map (refused_content l.values.in_quirks) (map (content_of l.size) l.parts)
 
 abbrev pub decreases-parts : goal.decreases-parts
 decreases-parts l = length l.left
