@@ -649,14 +649,19 @@ uint32_t simplecss_dropped(const uint8_t *text, size_t text_len, const simplecss
 uint32_t simplecss_lint(const uint8_t *text, size_t text_len, size_t asked,
                         uint8_t *out, size_t out_size, size_t *len);
 
-/* Writes two numbers of each declaration whose value no browser takes, as far as a table says, in order: the offsets of its
- * first byte and after its last one. They are those of the style rules of a sheet, also of rules in style rules; or, if
- * `attribute` is not 0, of a style attribute. A text with spaces in their place is read as browsers read it: pass that to
- * simplecss_query_new, and they win nowhere. The text itself, where each value may win, is the other choice. Of a property
- * that is not in the table nothing is known, nor of most values with a function; a number counts as a length, and three or
- * six hexadecimal digits as a colour, since they are in quirks mode. `out_size` and `*len` count numbers. */
-uint32_t simplecss_refused_values(const uint8_t *text, size_t text_len, size_t attribute,
-                                  size_t *out, size_t out_size, size_t *len);
+/* What `simplecss_taken` is told of a text, added up: that it is a style attribute, and that the page is in quirks mode, or
+ * the attribute is of an element that is not in HTML, which browsers read so. */
+#define SIMPLECSS_TAKEN_STYLE 1u
+#define SIMPLECSS_TAKEN_QUIRKS 2u
+
+/* Writes a style sheet as browsers read it: with as many spaces in place of each declaration whose value no browser takes, as
+ * far as a table says. They are those of style rules, also of rules in style rules, or those of a style attribute. The calls
+ * that say what wins take texts as they are passed: pass them what this one writes, of each text of an author or a user and
+ * of each attribute, and such declarations win nowhere; or pass the text itself, where each value may win. Offsets are the
+ * same in both (examples/c/values.c). Of a property that is not in the table nothing is known, nor of most values with a
+ * function. In quirks mode some properties take numbers as lengths, and three or six hexadecimal digits as colours. */
+uint32_t simplecss_taken(const uint8_t *text, size_t text_len, size_t asked,
+                         uint8_t *out, size_t out_size, size_t *len);
 
 /* The kinds of statements and items. Those from SIMPLECSS_SKIPPED to SIMPLECSS_INVALID_SELECTOR are skipped. */
 #define SIMPLECSS_DECLARATION 0u
@@ -693,7 +698,7 @@ uint32_t simplecss_media(const uint8_t *text, size_t text_len, const simplecss_d
 
 /* Writes whether a condition of `@supports` holds (CSS Conditional Rules 4), as `true` or `false`. Supported are
  * declarations whose properties have these names, given in lower case, but for values that no browser takes
- * (simplecss_refused_values), those of custom properties, and `selector(..)` of what is a modern selector. It takes time that
+ * (simplecss_taken), those of custom properties, and `selector(..)` of what is a modern selector. It takes time that
  * grows as the text times the names. */
 uint32_t simplecss_supports(const uint8_t *text, size_t text_len,
                             const uint8_t *properties, size_t properties_len,

@@ -326,6 +326,25 @@ class Mistakes(unittest.TestCase):
 
 
 class Values(unittest.TestCase):
+    def test_quirks_mode(self):
+        """There numbers are lengths, and in attributes of elements that are not in HTML, as in Chromium."""
+        sheet = simplecss.StyleSheet("p { width: 2em; width: 34 }")
+        own = "style='left: 0; left: 34; color: red; color: abc'"
+        for head, width, left, color in (
+            ("", "34", "34", "abc"),
+            ("<!DOCTYPE html>", "2em", "0", "red"),
+        ):
+            tree = simplecss.Tree.from_html(f"{head}<p {own}><svg {own}>")
+            shape, text = tree.select_one("svg"), tree.select_one("p")
+            self.assertEqual(sheet.style(tree, "width")[text].value, width)
+            for element, due in ((text, (left, color)), (shape, ("34", "abc"))):
+                found = [sheet.explain(element, name).winner for name in ("left", "color")]
+                self.assertEqual(tuple(each.declaration.value for each in found), due)
+        text = "<p xmlns='http://www.w3.org/1999/xhtml' style='left: 0; left: 34'/>"
+        tree = simplecss.Tree.from_xml(text)
+        winner = sheet.explain(tree.elements[0], "left").winner
+        self.assertEqual(winner.declaration.value, "0")
+
     def test_takes_value(self):
         for name, value, expected in (
             ("color", "red", True),
@@ -396,6 +415,27 @@ class Kinds(unittest.TestCase):
             self.assertEqual(len(simplecss.lint(text)), count, text)
         page = "<style>\na { colr: red } /* simplecss-ignore */</style><p style='tpo: 0'>"
         self.assertEqual([each.text for each in _lint.findings("a.html", page)], ["tpo"])
+
+    def test_each_is_turned_off(self):
+        """By its name, and by a comment in its line; and it alone is reported if it is selected."""
+        for each in _lint.explained().values():
+            kind, wrong = _lint.kind_of(each.reason), each.wrong.replace("\\n", "\n")
+            found = [one for one in simplecss.lint(wrong) if one.kind == kind]
+            self.assertEqual(len(found) > 0, wrong != "", kind)
+            kept = simplecss.lint(wrong, ignore=kind)
+            self.assertEqual([one for one in kept if one.kind == kind], [], wrong)
+            lines = wrong.split("\n")
+            for one in found:
+                lines[one.row - 1] = f"/* simplecss-ignore {kind} */" + lines[one.row - 1]
+            kept = simplecss.lint("\n".join(lines))
+            self.assertEqual([one for one in kept if one.kind == kind], [], wrong)
+            for words, due in ((["--select", kind], {kind}), (["--ignore", kind], set())):
+                out = io.StringIO()
+                with redirect_stdout(out), redirect_stderr(io.StringIO()), given(wrong):
+                    command.main(["lint", "--json", *words, "-"])
+                shown = {json.loads(line)["kind"] for line in out.getvalue().splitlines()}
+                self.assertEqual(shown & {kind}, due if wrong else set(), (words, wrong))
+                self.assertTrue(shown <= {kind} or words[0] == "--ignore", (words, wrong))
 
     def test_each_is_explained(self):
         """Each kind is found in a sheet with it alone, and not in the sheet without it."""

@@ -26,11 +26,11 @@ function layersOf(sheets, rules) {
 
 /**
  * Returns for each element the declarations of properties that apply to it, the strongest first, and the one that wins. The rules are
- * those of sheets that are read. Declarations of attributes whose values no browser takes are left out unless any may be. More
- * declarations than `limit` are an error.
+ * those of sheets that are read. Declarations of attributes with other values than may win are left out. More declarations than `limit`
+ * are an error.
  */
-export function explained(sheets, winning, elements, names, limit, anyValue) {
-  const styles = elements.names.map((_, index) => elements.styleOf(index)), own = anyValue ? styles : styles.map(takenStyle);
+export function explained(sheets, winning, elements, names, limit, values) {
+  const own = elements.names.map((_, index) => takenStyle(elements.styleOf(index), values, elements.isForeign(index)));
   const layer = layersOf(sheets, winning.rules);
   const [numbers, winners] = winning.explained(elements, names, own, limit), selectors = winning.texts(), found = [];
   const contenderOf = (index, rule, place) => {

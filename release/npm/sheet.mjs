@@ -8,6 +8,7 @@ import { prettify } from './printing.mjs';
 import { conditionsOf, lower, placed, readSheet, Source } from './reading.mjs';
 import { decoded, originating, pseudoNames } from './tokens.mjs';
 import { NUMBERS, PORT, ReadText, SelectorError, Tree, grammarOf, matches, refusedList } from './tree.mjs';
+import { ANY_VALUE, valuesOn } from './taken.mjs';
 import { unusedOf } from './unused.mjs';
 import { Winning } from './winners.mjs';
 
@@ -246,8 +247,10 @@ export class StyleSheet {
     if (this.#grammar === PORT) throw new TypeError('a sheet of the modern grammar is expected');
     const { names = [], ...others } = options ?? {}, asked = askedOf(others), every = [name, ...names];
     every.forEach(expectText);
-    return this.#byElement(root, elements => (
-      explained(this.#statements(), this.#winning(asked), elements, every, this.#answerLimit, asked.anyValue)));
+    return this.#byElement(root, elements => {
+      const values = valuesOn(elements, asked.anyValue), winning = this.#winning(asked.media, values);
+      return explained(this.#statements(), winning, elements, every, this.#answerLimit, values);
+    });
   }
 
   /**
@@ -306,7 +309,7 @@ export class StyleSheet {
 
   /** Yields for each element the indices of the rules that match it of those that the library places. */
   * #nestedOn(elements, media) {
-    const winning = this.#winning({ media, anyValue: true }), taken = new Map();
+    const winning = this.#winning(media, ANY_VALUE), taken = new Map();
     const kept = winning.rules.map(({ sheet, start }) => {
       const place = keyOf(sheet, start), turn = taken.get(place) ?? 0, index = this.#all().nested.get(place)?.[turn];
       taken.set(place, turn + 1);
@@ -318,7 +321,7 @@ export class StyleSheet {
   }
 
   #winners(elements, asked) {
-    const winning = this.#winning(asked);
+    const winning = this.#winning(asked.media, valuesOn(elements, asked.anyValue));
     if (elements.names.length * winning.count > COMPARED * this.#answerLimit) this.#checkCompared(elements, asked.media);
     return winning.on(elements, this.#answerLimit);
   }
@@ -333,13 +336,13 @@ export class StyleSheet {
     }
   }
 
-  /** Returns the rules that apply on a device, with any values or with those that browsers take. */
-  #winning({ media, anyValue }) {
+  /** Returns the rules that apply on a device, with the values that may win. */
+  #winning(media, values) {
     const read = this.#statements();
     this.#checkLimit();
-    if (typeof media === 'function') return new Winning(read, media, this.#limit, anyValue);
-    const key = JSON.stringify([media, anyValue]);
-    if (!this.#winningOn.has(key)) this.#winningOn.set(key, new Winning(read, media, this.#limit, anyValue));
+    if (typeof media === 'function') return new Winning(read, media, this.#limit, values);
+    const key = JSON.stringify([media, `${values}`]);
+    if (!this.#winningOn.has(key)) this.#winningOn.set(key, new Winning(read, media, this.#limit, values));
     return this.#winningOn.get(key);
   }
 }

@@ -1,8 +1,9 @@
 // Which values of properties browsers take, as far as the library knows.
 import { call, decode, encode, expectText } from './library.mjs';
 
-// What the library is asked for: whether properties take values; and whether a text is a sheet or a `style` attribute.
-const VALUES = 8n, SHEET = 0n, ATTRIBUTE = 1n;
+// What the library is asked for: whether properties take values; and that a text is a sheet or a `style` attribute, and a page in quirks
+// mode.
+const VALUES = 8n, SHEET = 0n, STYLE = 1n, QUIRKS = 2n;
 
 /** Returns the fields of the lines that the library writes of a text. */
 export function linesOf(data, asked) {
@@ -22,24 +23,29 @@ export function takesValue(name, value) {
   return found === 'unknown' ? null : found === 'valid';
 }
 
+/** Any value may win. */
+export const ANY_VALUE = null;
+
+/** Returns which values may win: any, or those that browsers take, of which they take more on pages in quirks mode. */
+export function valuesOn({ reading }, anyValue) {
+  return anyValue ? ANY_VALUE : reading === QUIRKS ? QUIRKS : SHEET;
+}
+
 /**
  * Returns a style sheet as browsers read it: with as many spaces in place of each declaration whose value no browser takes, as far as
  * that is known.
  */
 export function taken(text) {
-  return decode(takenBytes(encode(text)));
+  return decode(takenBytes(encode(text), SHEET));
 }
 
-/** Returns a `style` attribute as browsers read it. */
-export function takenStyle(text) {
-  return text && decode(takenBytes(encode(text), ATTRIBUTE));
+/** Returns a `style` attribute without declarations with other values. Of an element that is not in HTML it is read as in quirks mode. */
+export function takenStyle(text, values, isForeign) {
+  if (!text || values === ANY_VALUE) return text;
+  return call('taken', [encode(text), STYLE | (isForeign ? QUIRKS : values)], { room: 256 + text.length });
 }
 
-/** Returns the bytes of a style sheet, or of an attribute, as browsers read it. */
-export function takenBytes(data, form = SHEET) {
-  const numbers = call('refused_values', [data, form], { room: 256, isNumbers: true });
-  if (numbers.length === 0) return data;
-  const kept = data.slice();
-  for (let at = 0; at < numbers.length; at += 2) kept.fill(32, numbers[at], numbers[at + 1]);
-  return kept;
+/** Returns the bytes of a style sheet without declarations with other values. */
+export function takenBytes(data, values) {
+  return values === ANY_VALUE ? data : call('taken', [data, values], { room: 16 + data.length, isBytes: true });
 }

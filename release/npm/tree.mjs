@@ -313,6 +313,11 @@ class Elements {
     return written.split('\n').slice(0, -1).map(line => line.slice(line.indexOf(':') + 1));
   }
 
+  /** Whether an element is in another namespace than that of HTML. */
+  isForeign(index) {
+    return !['', SPACE_OF_HTML].includes(this.spaces[index]);
+  }
+
   /** Returns the `style` attribute of an element. */
   styleOf(index) {
     const attributes = this.spacedAttributes.get(index)?.plain ?? this.attributes[index];

@@ -41,15 +41,15 @@ export class Winning {
   #size;
 
   /**
-   * Takes sheets that are read, with their blocks, without declarations whose values no browser takes unless any may be. Rules with more
-   * declarations than `limit` are an error.
+   * Takes sheets that are read, with their blocks, without declarations with other values than may win. Rules with more declarations
+   * than `limit` are an error.
    */
-  constructor(sheets, media, limit, anyValue) {
+  constructor(sheets, media, limit, values) {
     const applies = asked(media), groups = new Map();
     for (const sheet of sheets) {
       for (const { name, prelude } of held(sheet, applies)) groups.set(`${name} ${prelude}`, [name, prelude]);
     }
-    const texts = sheets.map(({ source: { data } }) => anyValue ? data : takenBytes(data)), pairs = [...groups.values()].filter(([name]) => name !== 'layer');
+    const texts = sheets.map(({ source: { data } }) => takenBytes(data, values)), pairs = [...groups.values()].filter(([name]) => name !== 'layer');
     this.#size = texts.reduce((sum, text) => sum + text.length, 0);
     this.#limit = limit;
     // A sheet without an origin is the author's, and one without a depth is in no group rule.

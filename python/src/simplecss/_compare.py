@@ -25,7 +25,7 @@ from ._normal import normal_value
 from ._properties import counterparts, longhands, names_setting
 from ._regions import told_apart
 from ._sheet import StyleSheet, Won, conditions_of
-from ._specified import Own, presentation_attributes
+from ._specified import Own, presentation_attributes, values_on
 from ._tree import Element, Tree
 from ._winners import roll_back
 
@@ -95,7 +95,7 @@ def _on_devices(
     sheets: Tuple[StyleSheet, StyleSheet], tree: Tree, devices: Sequence[Media]
 ) -> Iterable[Difference]:
     """Returns the differences on a tree, each with the first device on which it is."""
-    own = Own(tree, presentation_attributes, any_value=False)
+    own = Own(tree, presentation_attributes, values_on(tree, any_value=False))
     if len(devices) == 1:
         return _Comparison(sheets, tree, own, devices[0]).differences()
     found: Dict[Tuple[object, ...], Difference] = {}

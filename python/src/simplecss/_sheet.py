@@ -75,7 +75,9 @@ from ._specified import (
     inherited,
     presentation_attributes,
     specified_by,
+    values_on,
 )
+from ._taken import Values
 from ._tree import Element, Tree, elements_of
 from ._unused import Unused, Usage
 from ._user_agent import user_agent_sheet
@@ -327,7 +329,7 @@ class StyleSheet:
         self._contents: Optional[_Contents] = None
         self._selectors: Dict[Device, _Selectors] = {}
         # By the device, and the sheets that are before this one.
-        self._winning_on: Dict[Tuple[Device, Tuple[StyleSheet, ...], bool], Winning] = {}
+        self._winning_on: Dict[Tuple[Device, Tuple[StyleSheet, ...], Values], Winning] = {}
 
     @classmethod
     def of_rules(
@@ -539,7 +541,7 @@ class StyleSheet:
 
     def _placed_rules(self) -> Iterator["_Placed"]:
         """Yields the rules that the library places, as they stand in the texts."""
-        every = self._winning_by(lambda text: True, (self,), True)
+        every = self._winning_by(lambda text: True, (self,), Values.ANY)
         blocks = self._placed_blocks()
         rules = sorted(zip(every.rules, every.selectors), key=lambda each: each[0][:2])
         for number, found in itertools.groupby(rules, key=lambda each: each[0].sheet):
@@ -741,7 +743,7 @@ class StyleSheet:
     def _nested_on(self, elements: Elements, media: Media) -> Iterator[List[int]]:
         """Yields for each element the indices of the rules that match it of those that the library
         places."""
-        winning = self._winning(media, (self,), True)
+        winning = self._winning(media, (self,), Values.ANY)
         query = winning.on(elements, NO_OWN)
         left = {place: iter(indices) for place, indices in self._all().nested.items()}
         # The index of each rule, but for those of others and of pseudo-elements.
@@ -831,12 +833,13 @@ class StyleSheet:
         """
         elements = _elements_in(tree)
         sheets = (user_agent_sheet(tree), self) if ua else (self,)
-        winning = self._winning(media, sheets, any_value)
+        values = values_on(tree, any_value)
+        winning = self._winning(media, sheets, values)
         query = elements.asked_last(
-            (Query, winning, presentation, any_value),
+            (Query, winning, presentation, values),
             lambda: winning.on(
                 elements,
-                NO_OWN if presentation is None else Own(tree, presentation, any_value),
+                NO_OWN if presentation is None else Own(tree, presentation, values),
             ),
         )
         return self._compared(tree, media, sheets, query)
@@ -858,18 +861,18 @@ class StyleSheet:
             for sheet, indices in zip(sheets, found):
                 compared.take(sum(len(sheet.rules[each].declarations) for each in indices))
 
-    def _winning(self, media: Media, sheets: Tuple["StyleSheet", ...], any_value: bool) -> Winning:
+    def _winning(self, media: Media, sheets: Tuple["StyleSheet", ...], values: Values) -> Winning:
         """Returns the rules of this sheet, and of others with it, that apply on a device."""
         self._check_limit()
         if not isinstance(media, Device) and callable(media):
-            return self._winning_by(media, sheets, any_value)
-        key = (device_of(media), sheets[:-1], any_value)
+            return self._winning_by(media, sheets, values)
+        key = (device_of(media), sheets[:-1], values)
         found = self._winning_on.get(key)
         if found is None:
-            found = self._winning_on[key] = self._winning_by(key[0], sheets, any_value)
+            found = self._winning_on[key] = self._winning_by(key[0], sheets, values)
         return found
 
-    def _winning_by(self, media: Media, sheets: Sequence["StyleSheet"], any_value: bool) -> Winning:
+    def _winning_by(self, media: Media, sheets: Sequence["StyleSheet"], values: Values) -> Winning:
         """Returns the rules of these sheets that apply, of which the limit is that of this one."""
         read: List[ReadSheet] = []
         pieces: List[Piece] = []
@@ -877,7 +880,7 @@ class StyleSheet:
             pieces += (each._replace(text=each.text + len(read)) for each in sheet._pieces)
             read += sheet._read_sheets()
         origins = [origin for sheet in sheets for origin in sheet._origins]
-        return Winning(read, pieces, origins, media, self._limit, any_value)
+        return Winning(read, pieces, origins, media, self._limit, values)
 
     def _winners_of_port(
         self, selectors: "_Selectors", lines: List[bytes], name: Optional[str]
@@ -980,11 +983,12 @@ class StyleSheet:
         if self._grammar == PORT:
             raise ValueError("a sheet of the modern grammar is expected")
         elements, limit = elements_of(tree), self._answer_limit
-        winning = self._winning(media, (user_agent_sheet(tree), self) if ua else (self,), any_value)
+        values = values_on(tree, any_value)
+        winning = self._winning(media, (user_agent_sheet(tree), self) if ua else (self,), values)
         names = names_setting(name) if shorthands else (name,)
         found = elements.asked_last(
             (winning, presentation),
-            lambda: self._on_elements(tree, winning, media, presentation, any_value),
+            lambda: self._on_elements(tree, winning, media, presentation, values),
         )
         return Explaining(name, names, winning, self._explained_texts(tree, ua), found, limit)
 
@@ -994,11 +998,11 @@ class StyleSheet:
         winning: Winning,
         media: Media,
         presentation: Presentation,
-        any_value: bool,
+        values: Values,
     ) -> OnElements:
         """Returns what elements of a tree have by these rules."""
         elements, limit = elements_of(tree), self._answer_limit
-        query = winning.on(elements, Own(tree, presentation, any_value))
+        query = winning.on(elements, Own(tree, presentation, values))
         styles = ResolvedElements(
             elements.parents,
             lambda index: query.winners(limit, range(index, index + 1))[0],
@@ -1108,7 +1112,8 @@ class Won:
 
     def __init__(self, sheet: StyleSheet, tree: Tree, own: Own, media: Media) -> None:
         """Takes a sheet, a tree with these declarations of its own, and a device."""
-        query = sheet._winning(media, (sheet,), False).on(elements_of(tree), own)
+        values = values_on(tree, any_value=False)
+        query = sheet._winning(media, (sheet,), values).on(elements_of(tree), own)
         self._query = sheet._compared(tree, media, (sheet,), query)
         self._winning = query.cascade
         self._texts = sheet._explained_texts(tree, False)

@@ -22,7 +22,8 @@ from ._declaration import Declaration, cascaded
 from ._library import Room, expect_text
 from ._presenting import presented_by
 from ._reading import declarations
-from ._taken import taken_of_style
+from ._spaced import HTML_SPACE
+from ._taken import Values
 from ._tree import Element, Tree, elements_of, plain_attributes
 from ._words import BLANKS, lower
 
@@ -75,15 +76,14 @@ class Own:
     """The declarations of elements that are in no rule: of their attribute `style`, and presentation
     declarations."""
 
-    def __init__(
-        self, tree: Iterable[Element], presentation: Presentation, any_value: bool
-    ) -> None:
-        """Reads them, without those of a `style` whose values no browser takes unless any may be."""
+    def __init__(self, tree: Iterable[Element], presentation: Presentation, values: Values) -> None:
+        """Reads them, without those of a `style` with other values."""
         self._texts: List[bytes] = []
         self._known: Dict[bytes, List[Declaration]] = {}
         for element in tree:
             text = library.encode(plain_attributes(element).get("style", ""))
-            style = text if any_value else taken_of_style(text)
+            is_foreign = text != b"" and element.namespace not in (None, HTML_SPACE)
+            style = values.in_style(text, is_foreign)
             pairs = presentation(element).items()
             hints = (_presented(name, value) for name, value in pairs)
             presented = "".join(_text_of(each) for each in hints if each is not None)
@@ -114,8 +114,13 @@ class Own:
         return found
 
 
+def values_on(tree: Tree, any_value: bool) -> Values:
+    """Returns which values may win on a tree."""
+    return Values.on(elements_of(tree).reading, any_value)
+
+
 # Elements that have none.
-NO_OWN = Own((), presentation_attributes, any_value=True)
+NO_OWN = Own((), presentation_attributes, Values.ANY)
 
 
 def specified_by(

@@ -35,7 +35,7 @@ from ._reading import (
 from ._selectors import Specificity
 from ._spaced import HTML_SPACE
 from ._specified import Own
-from ._taken import taken
+from ._taken import Values
 from ._values import has_ident
 
 # How many numbers the library writes of a rule before those of its declarations, of each of these,
@@ -152,16 +152,16 @@ class Winning:
         origins: Sequence[str],
         media: Media,
         limit: int,
-        any_value: bool,
+        values: Values,
     ) -> None:
-        """Takes the pieces of sheets, of these origins, which are read when they are asked, without declarations whose
-        values no browser takes unless any may be. Rules with more declarations than `limit` raise `LimitError` then.
+        """Takes the pieces of sheets, of these origins, which are read when they are asked, without declarations with other
+        values. Rules with more declarations than `limit` raise `LimitError` then.
         """
         applies = functools.lru_cache(maxsize=None)(functools.partial(holds, media=media))
         groups = _groups_in(sheets, applies)
         words = [library.encode(word) for each in groups for word in each.condition]
         data = [
-            each[0].data if any_value or origin == USER_AGENT else taken(each[0].data)
+            each[0].data if origin == USER_AGENT else values.in_sheet(each[0].data)
             for each, origin in zip(sheets, origins)
         ]
         # Where an offset is in a piece, it is in the sheet.

@@ -120,7 +120,7 @@ struct Known<'o> {
 impl Supported for Known<'_> {
     fn knows(&self, name: &[u8], value: &[u8]) -> bool {
         let is_listed = || self.properties.iter().any(|it| spells(it.as_bytes(), name));
-        let is_refused = || core::str::from_utf8(name).map_or(false, |name| self.values.refuses(name, value));
+        let is_refused = || core::str::from_utf8(name).map_or(false, |name| self.values.refuses(name, value, false));
         matches!(name, [b'-', b'-', _, ..]) || !past_gap(value).is_empty() && is_listed() && !is_refused()
     }
 

@@ -40,12 +40,32 @@ impl<'t> Text<'t> {
     /// assert_eq!(&*Text::sheet("a { width: calc(1px); --b: x }"), "a { width: calc(1px); --b: x }");
     /// ```
     pub fn sheet(text: &'t str) -> Self {
-        Text(without(text, &done(refused_in_sheet(Global, within(text)))))
+        Text(without(text, &done(refused_in_sheet(Global, within(text), false))))
     }
 
     /// A `style` attribute as browsers read it, as [`Text::sheet`] is.
     pub fn style(text: &'t str) -> Self {
-        Text(without(text, &done(refused_in_attribute(Global, within(text)))))
+        Text(without(text, &done(refused_in_attribute(Global, within(text), false))))
+    }
+
+    /// A style sheet as browsers read it on pages in quirks mode
+    /// ([`Page::is_quirky`](super::html::Page::is_quirky)), where some properties take numbers as lengths and colours.
+    ///
+    /// ```
+    /// use simplecss::modern::Text;
+    ///
+    /// let text = "a { width: 3; color: abc; gap: 3 }";
+    /// assert_eq!(&*Text::sheet(text), "a {         ;           ;        }");
+    /// assert_eq!(&*Text::quirky_sheet(text), "a { width: 3; color: abc;        }");
+    /// ```
+    pub fn quirky_sheet(text: &'t str) -> Self {
+        Text(without(text, &done(refused_in_sheet(Global, within(text), true))))
+    }
+
+    /// A `style` attribute as browsers read it on pages in quirks mode, as [`Text::quirky_sheet`] is, and on any page of an element
+    /// that is not in HTML, as one of SVG.
+    pub fn quirky_style(text: &'t str) -> Self {
+        Text(without(text, &done(refused_in_attribute(Global, within(text), true))))
     }
 
     /// A style sheet or a `style` attribute as it is: with any value.
