@@ -62,6 +62,7 @@ SUBJECTS = (
     ("tokens", ()),
     ("values", ()),
     ("known_values", ()),
+    ("linted", ()),
     ("recommended", ()),
     ("errors", ()),
     ("user_agent", ()),

@@ -23,7 +23,16 @@ import unittest
 import zipfile
 from typing import Any, Dict, List, Optional, Sequence, Set, Tuple
 
-from tests import judges_tests, modern_selectors, nested_rules, release, shown, syntax, tables
+from tests import (
+    judges_tests,
+    linted,
+    modern_selectors,
+    nested_rules,
+    release,
+    shown,
+    syntax,
+    tables,
+)
 from tests.common import (
     DEBIAN,
     TOP,
@@ -45,6 +54,7 @@ from tests.release import (
     PIECES,
     PRINTED,
     UNUSED,
+    VALUES,
     PROJECT,
     Cargo,
     Release,
@@ -352,6 +362,15 @@ class Rust(Checkout):
         got = [part.decode() for (part,) in parts_of(done.stdout, 1)]
         due = [answered_in_python(*it) for it in work]
         self.compare("pages in HTML and Python's", [it[0].encode() for it in work], due, got)
+
+    def test_lint(self) -> None:
+        """Random sheets have the mistakes that the C library finds."""
+        project = self.cargo.project("linted", self.needed, **sources("linted.rs"))
+        texts = [it.encode() for it in linted.sheets()]
+        done = self.cargo(["run", "-q", "--release"], project, "mistakes", input=framed(texts))
+        due = [linted.lines_of(it) for it in linted.sheets()]
+        got = [part.decode() for (part,) in parts_of(done.stdout, 1)]
+        self.compare("mistakes and the C library's", texts, due, got)
 
     def test_counts(self) -> None:
         """Calls that take a person's own elements test them as often as they say, and no more."""
@@ -758,6 +777,7 @@ class Library(Checkout):
                 self.needs(words[0], "examples/c/page.c over the C library of a checkout")
                 self.assertEqual(self.page_by(words, package, folder), PRINTED)
                 self.assertEqual(self.page_by(words, package, folder, "unused.c"), UNUSED)
+                self.assertEqual(self.page_by(words, package, folder, "values.c"), VALUES)
         if os.path.exists(os.path.join(TOP, "out", "libsimplecss.so")):
             folder = os.path.dirname(library_path())
             self.assertEqual(self.page_by(["cc", "-std=c99"], package, folder), PRINTED)
@@ -1081,6 +1101,16 @@ class JavaScript(Checkout, release.Npm):
         package = os.path.join(self.folder, "package")
         self.put(package)
         self.run_page("JAVASCRIPT", {"$CHECKOUT/tools/release.py --npm simplecss-npm": package}, 3)
+
+    def test_random_sheets(self) -> None:
+        """They have the mistakes that the Python package finds, and are corrected alike."""
+        words = ["node", os.path.join(TOP, "tests", "release", "linted.mjs"), self.unpacked()]
+        from simplecss import fixed
+
+        work = json.dumps(linted.sheets()).encode()
+        got = json.loads(self.works(words, "linted.mjs", input=work).stdout)
+        due = [[linted.in_python(it), fixed(it)] for it in linted.sheets()]
+        self.compare("mistakes and Python's", [it.encode() for it in linted.sheets()], due, got)
 
     def test_page(self) -> None:
         """The page beside the package works from a file."""

@@ -1,5 +1,6 @@
 """The table of the values that properties take beside a browser: random values of random
-properties, of which `CSS.supports` says whether it takes them.
+properties, of which `CSS.supports` says whether it takes them, and sheets of pages in quirks mode
+and of others which it keeps.
 
 The browser is Debian's `chromium`; the library is that of the Python package. What the table does
 not know is not compared, but there has to be an answer for many values. What is valid or invalid is
@@ -19,11 +20,18 @@ import simplecss  # noqa: E402
 from simplecss import _taken  # noqa: E402
 
 PAGE = """
-<!DOCTYPE html><meta charset=utf-8><body><script id=input type="application/json">%s</script>
+<meta charset=utf-8><body><style id=made></style><p id=styled><script id=input type="application/json">%s</script>
 <script>
 const input = JSON.parse(document.getElementById("input").textContent);
-document.body.textContent = "ANSWER" + JSON.stringify(
-    input.map(([name, value]) => Number(CSS.supports(name, value)))) + "END";
+const { sheet } = document.getElementById("made"), element = document.getElementById("styled");
+const answers = input.map(([name, value]) => {
+    sheet.insertRule(`a { ${name}: ${value} }`);
+    const [rule] = sheet.cssRules, isKept = rule.style.length > 0;
+    sheet.deleteRule(0);
+    element.setAttribute("style", `${name}: ${value}`);
+    return [CSS.supports(name, value), isKept, element.style.length > 0].map(Number);
+});
+document.body.textContent = "ANSWER" + JSON.stringify(answers) + "END";
 </script>
 """
 # fmt: off
@@ -37,6 +45,9 @@ OTHERS = (
     "-moz-calc(1px)", "-webkit-calc(1px)", "-o-x(var(--a))", "if(else: 1)", "attr(x)", "url( y )",
 )
 # fmt: on
+# Numbers and colours without a number sign, and the one of them of which the table always says whether it is taken.
+NUMBERS = ("34", "-34", "1.5", "0", "-0.0", "0e3", "fff", "123456", "abc123", "1 2", "34 red")
+EXACT = ("34",)
 SEPARATORS = (" ", " ", " ", "  ", ",", " / ", "/**/ ")
 GAPS = re.compile(rb"/\*.*?\*/|\s")
 # At least this share of the answers is known, and of those of the browser that refuse a value this one.
@@ -78,10 +89,10 @@ class Source:
         return self.random.choice(row[0].split()), "".join(parts)
 
 
-def is_refused(name: str, value: str) -> bool:
+def is_refused(name: str, value: str, values: _taken.Values) -> bool:
     """Whether a declaration is left out of what wins, in a sheet and in a style attribute."""
     text = f"{name}: {value}".encode()
-    sheet, style = _taken.taken(b"a { " + text + b" }"), _taken.taken_of_style(text)
+    sheet, style = values.in_sheet(b"a { " + text + b" }"), values.in_style(text)
     is_kept = style == text
     assert is_kept or not style.strip(), (name, value)
     # In a block, comments after a declaration are none of it.
@@ -91,23 +102,27 @@ def is_refused(name: str, value: str) -> bool:
 
 class KnownValues(Case):
     pairs: List[Tuple[str, str]] = []
-    answers: Optional[List[Any]] = None
+    # What the browser says of each: whether it takes the value, and whether a sheet and a style attribute keep it in
+    # quirks mode, and in another.
+    quirky: Optional[List[Any]] = None
+    standard: Optional[List[Any]] = None
 
     @classmethod
     def setUpClass(cls) -> None:
         source = Source()
         cls.pairs = [source.pair() for _ in range(count(20_000))]
-        cls.answers = browser_answers(PAGE, cls.pairs)
+        cls.quirky = browser_answers(PAGE, cls.pairs)
+        cls.standard = browser_answers("<!DOCTYPE html>" + PAGE, cls.pairs)
 
     def setUp(self) -> None:
-        if self.answers is None:
+        if self.standard is None or self.quirky is None:
             self.skipTest("values: chromium is missing")
 
     def test_random_values(self) -> None:
         found = [simplecss.takes_value(*pair) for pair in self.pairs]
         known = [
-            (pair, ours, bool(theirs))
-            for pair, ours, theirs in zip(self.pairs, found, self.answers or ())
+            (pair, ours, bool(theirs[0]))
+            for pair, ours, theirs in zip(self.pairs, found, self.standard or ())
             if ours is not None
         ]
         self.assertGreater(len(known), KNOWN * len(self.pairs))
@@ -118,14 +133,34 @@ class KnownValues(Case):
         ]
         self.sweep(len(known), failures)
 
-    def test_refused_values(self) -> None:
-        """The browser takes nothing that wins nowhere, and most that it does not take does."""
-        found = [is_refused(*pair) for pair in self.pairs]
-        refused = [bool(theirs) for ours, theirs in zip(found, self.answers or ()) if ours]
-        self.assertGreater(len(refused), REFUSED * list(self.answers or ()).count(0))
+    def refused(self, values: _taken.Values, answers: List[Any]) -> None:
+        """The browser keeps nothing that wins nowhere, and most that it does not keep does."""
+        found = [is_refused(*pair, values) for pair in self.pairs]
+        refused = [pair for pair, ours in zip(self.pairs, found) if ours]
+        self.assertGreater(len(refused), REFUSED * sum(not each[1] for each in answers))
         failures = [
-            f"{': '.join(pair)}: refused, in the browser taken"
-            for pair, ours, theirs in zip(self.pairs, found, self.answers or ())
-            if ours and theirs
+            f"{': '.join(pair)}: refused, in the browser {theirs}"
+            for pair, ours, theirs in zip(self.pairs, found, answers)
+            if ours and any(theirs[1:])
         ]
         self.sweep(len(refused), failures)
+
+    def test_refused_values(self) -> None:
+        self.refused(_taken.Values.TAKEN, self.standard or [])
+
+    def test_refused_in_quirks_mode(self) -> None:
+        self.refused(_taken.Values.QUIRKS, self.quirky or [])
+
+    def test_numbers(self) -> None:
+        """Numbers and bare colours are refused of each property of the table exactly where the browser refuses them."""
+        names = sorted({name for row in rows() for name in row[0].split()})
+        pairs = [(name, value) for name in names for value in NUMBERS]
+        for values, head in ((_taken.Values.QUIRKS, ""), (_taken.Values.TAKEN, "<!DOCTYPE html>")):
+            kept = [bool(each[1]) for each in browser_answers(head + PAGE, pairs) or ()]
+            ours = [not is_refused(*pair, values) for pair in pairs]
+            failures = [
+                f"{values.name}: {': '.join(pair)}: {mine}, in the browser {theirs}"
+                for pair, mine, theirs in zip(pairs, ours, kept)
+                if mine != theirs and (theirs or pair[1] in EXACT)
+            ]
+            self.sweep(len(pairs), failures)

@@ -36,7 +36,14 @@ from tests.common import (
 )
 
 # What the examples in C print.
-EXAMPLES = (("page.c", "1:\n2: 1 2\n3:\n"), ("unused.c", "p\nol li\n& b\n"))
+EXAMPLES = (
+    ("page.c", "1:\n2: 1 2\n3:\n"),
+    ("unused.c", "p\nol li\n& b\n"),
+    (
+        "values.c",
+        "position: sticky; width: 2em; style[0] \nposition: sticky; width: 34; style[0] \n",
+    ),
+)
 # How many calls tests/library_refused.c makes, and which of them allocate nothing.
 CALLS = 61
 WITHOUT_MEMORY = (10, 19)

@@ -673,14 +673,22 @@ LINTED = (
     (b"color:red\nwidth:1px 2px\n\ntop:x()", 8, b"valid\ninvalid\nunknown\nunknown\n"),
 )
 # Texts, whether each is an attribute, and where its declarations are whose values no browser takes.
-REFUSED_VALUES = (
-    (b"a{top:x;top:1px;TOP : y}", 0, ((2, 7), (16, 23))),
-    (b"a{b{top:x}@media c{top:'d'}&{}float:e}", 0, ((4, 9), (19, 26), (30, 37))),
-    (b"@media a{b{top:c!important}}@font-face{top:x}", 0, ((11, 26),)),
-    (b"a{top:calc(b);--top:x;unknown:y}", 0, ()),
-    (b"a{top:x}", 1, ()),
-    (b"top:x;left:1px;left:y", 1, ((0, 5), (15, 21))),
-    (b"top:x;left:1px;left:y", 2, ((0, 5), (15, 21))),
+# A text, what is said of it, and the text without the declarations whose values no browser takes.
+TAKEN = (
+    (b"a{top:x;top:1px;TOP : y}", 0, b"a{     ;top:1px;       }"),
+    (b"a{b{top:x}@media c{top:'d'}&{}float:e}", 0, b"a{b{     }@media c{       }&{}       }"),
+    (
+        b"@media a{b{top:c!important}}@font-face{top:x}",
+        4,
+        b"@media a{b{               }}@font-face{top:x}",
+    ),
+    (b"a{top:calc(b);--top:x;unknown:y}", 0, b"a{top:calc(b);--top:x;unknown:y}"),
+    (b"a{top:x}", 1, b"a{top:x}"),
+    (b"top:x;left:1px;left:y", 1, b"     ;left:1px;      "),
+    (b"top:3;gap:3;top:0;color:abc;color:x", 1, b"     ;     ;top:0;         ;       "),
+    (b"top:3;gap:3;top:0;color:abc;color:x", 3, b"top:3;     ;top:0;color:abc;       "),
+    ("a{color:é;é:x;top:é}".encode(), 2, "a{        ;é:x;      }".encode()),
+    (b"", 3, b""),
 )
 PRINTED = (
     (b"/**/ @media ( a : b ) { a > b , c { d : e ; } }", 0, b"@media(a :b){a>b,c{d:e}}"),
@@ -1001,6 +1009,7 @@ ANSWERS: Sequence[Tuple[str, Tuple[Any, ...], bytes]] = (
     *(("simplecss_sheet_imports", (text,), answer) for text, answer in IMPORTS),
     *(("simplecss_sheet_printed", (text, layout), printed) for text, layout, printed in PRINTED),
     *(("simplecss_lint", (text, asked), lines) for text, asked, lines in LINTED),
+    *(("simplecss_taken", (text, asked), taken) for text, asked, taken in TAKEN),
     *(("simplecss_close", (value,), closed) for value, closed in CLOSED),
     ("simplecss_spell", (b"-1\0 a", 2), b"-\\31 \xef\xbf\xbd\\ a"),
     ("simplecss_spell", (b"", 2), b""),
@@ -1222,7 +1231,7 @@ for _policy, _status in BAD_POLICIES:
 FAILURES += [
     *(("simplecss_clean", (BROKEN, POLICY, asked), NOT_UTF8) for asked in (0, 1, 2, 3, 6)),
     *(("simplecss_dropped", (BROKEN, POLICY, form), NOT_UTF8) for form in range(2)),
-    *(("simplecss_refused_values", (BROKEN, attribute), NOT_UTF8) for attribute in range(2)),
+    *(("simplecss_taken", (BROKEN, asked), NOT_UTF8) for asked in range(4)),
     ("simplecss_clean", (BROKEN, POLICY, 7), REFUSED),
     ("simplecss_dropped", (BROKEN, POLICY, 2), REFUSED),
 ]
@@ -1541,10 +1550,6 @@ NUMBERS: Sequence[Tuple[str, Tuple[Any, ...], Sequence[Sequence[int]]]] = (
     ("simplecss_sheet_statements", (b" /* */ <!-- ",), ()),
     *(("simplecss_sheet_contents", (text,), numbers) for text, numbers in CONTENTS),
     *(("simplecss_dropped", (text, policy, form), rows) for policy, form, text, rows in DROPPED),
-    *(
-        ("simplecss_refused_values", (text, attribute), places)
-        for text, attribute, places in REFUSED_VALUES
-    ),
     ("simplecss_declarations", (DECLARATIONS,), DECLARATION_NUMBERS),
     *(
         ("simplecss_declarations", (text,), ((kind, 0, len(text), *[0] * 7),))
@@ -1933,8 +1938,8 @@ def large_questions() -> Iterator[Tuple[str, Tuple[Any, ...], int]]:
     yield "simplecss_clean", (b"a:b;" * MANY, policy, 1), len(b"a: b; ") * MANY - 1
     yield "simplecss_clean", (b"p{a:b}" * MANY, policy, 0), len(b".m p {a: b;}\n") * MANY
     yield "simplecss_dropped", (b"b:c;" * MANY, policy, 1), 3 * MANY
-    yield "simplecss_refused_values", (b"top:x;" * MANY, 1), 2 * MANY
-    yield "simplecss_refused_values", (b"a{top:x;" * MANY, 0), 2 * MANY
+    yield "simplecss_taken", (b"top:x;" * MANY, 1), 6 * MANY
+    yield "simplecss_taken", (b"a{top:x;" * MANY, 0), 8 * MANY
     unnamed = len(b"default\twindows-1252")
     yield "simplecss_html_encoding", (b"<meta " * MANY, b" " * MANY), unnamed
     yield "simplecss_close", (b"a" * MANY + b"(",), MANY + 2

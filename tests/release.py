@@ -69,7 +69,6 @@ OF_NUMBERS = (
     "simplecss_list_numbers",
     "simplecss_page_select",
     "simplecss_dropped",
-    "simplecss_refused_values",
 )
 # The elements of the tree of compare.rs.
 PAGE: Sequence[Tuple[int, str, List[Tuple[str, str]]]] = [
@@ -292,7 +291,8 @@ class Library:
             ("sheet_imports", text),
             ("sheet_contents", text),
             ("lint", text, 1),
-            ("refused_values", text, 0),
+            ("taken", text, 0),
+            ("taken", text, 3),
             ("clean", text, library_calls.COMPARED, 0),
             ("clean", text, library_calls.COMPARED, 1),
             ("dropped", text, library_calls.COMPARED, 0),
@@ -867,6 +867,8 @@ endforeach()
 PRINTED = b"1:\n2: 1 2\n3:\n"
 # What `examples/c/unused.c` does.
 UNUSED = b"p\nol li\n& b\n"
+# What `examples/c/values.c` does: without the values that no browser takes, and in quirks mode.
+VALUES = b"position: sticky; width: 2em; style[0] \nposition: sticky; width: 34; style[0] \n"
 
 
 class Program(Release):
@@ -1535,6 +1537,12 @@ console.log(JSON.stringify(sheet.unused(page)), sheet.unused(page, '<i>').length
 console.log([...sheet.style(page, 'TOP').values()].map(each => each?.value ?? '-').join(' '));
 const values = [['color', 'red'], ['color', 'reed'], ['color', 'f()'], ['a:b', 'c'], ['color', 'red\\nred']];
 console.log(values.map(each => css.takesValue(...each)).join());
+const sized = new StyleSheet('p { width: 2em; width: 34 }'), own = 'style="left: 0; left: 34"';
+for (const head of ['', '<!doctype html>']) {
+  const drawn = `${head}<p ${own}><svg ${own}>`, widths = [...sized.style(drawn, 'width').values()].filter(Boolean);
+  const lefts = [...sized.explain(drawn, 'left').values()].flatMap(({ winner }) => winner ? winner.declaration.value : []);
+  console.log(widths.map(each => each.value).join(), lefts.join());
+}
 for (const call of [
   () => select('page.html', 'p'), () => css.takesValue('color', 3), () => new StyleSheet('', { grammar: 'simplecss' }).unused(page),
   () => new StyleSheet('', { grammar: 'simplecss' }).explain(page, 'top'), () => sheet.explain(page, 'top', { mediums: 'tv' }),
@@ -1548,6 +1556,8 @@ li red, li red, p blue
 {"selector":"i:hover","row":1,"column":10,"isWhole":false,"source":1,"start":9,"end":16}] 1 4
 - - - - 0 0 -
 true,false,,,
+34 34,34
+2em 0,34
 TypeError 'page.html' is the name of a page, not its text
 TypeError a text is expected, not number
 TypeError a sheet of the modern grammar is expected

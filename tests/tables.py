@@ -235,11 +235,7 @@ class InC:
         return f"{name}: {self.text('close', value)}{' !important' * important}"
 
     def styles(self, page: str, device: str, sheet: str) -> str:
-        taken = bytearray(sheet.encode())
-        places = self.numbers("refused_values", bytes(taken), 0) or []
-        for start, end in zip(places[::2], places[1::2]):
-            taken[start:end] = b" " * (end - start)
-        return self.any_value(page, device, taken.decode())
+        return self.any_value(page, device, self.text("taken", sheet.encode(), 0) or "")
 
     def any_value(self, page: str, device: str, sheet: str) -> str:
         text = sheet.encode()

@@ -67,7 +67,8 @@ int main(void) {
         put(simplecss_sheet_text(&sheet, SIMPLECSS_IMPORTS, OUT));
         put_numbers(simplecss_sheet_numbers(&sheet, SIMPLECSS_CONTENTS, MOST, NUMBERS));
         put(simplecss_lint(text, end, SIMPLECSS_LINT_ALL, OUT));
-        put_numbers(simplecss_refused_values(text, end, 0, NUMBERS));
+        put(simplecss_taken(text, end, 0, OUT));
+        put(simplecss_taken(text, end, SIMPLECSS_TAKEN_STYLE | SIMPLECSS_TAKEN_QUIRKS, OUT));
         put(simplecss_clean(text, end, &policy, SIMPLECSS_CLEAN_SHEET, OUT));
         put(simplecss_clean(text, end, &policy, SIMPLECSS_CLEAN_STYLE, OUT));
         put_numbers(simplecss_dropped(text, end, &policy, SIMPLECSS_CLEAN_SHEET, NUMBERS));

@@ -28,7 +28,7 @@ for (let at = 0; at < input.length; ) {
     ...[0n, 2n].map(portAnswer), ...listOf(text, portNumber), ...[1n, 3n, 4n, 5n].map(portAnswer),
     sheetNumbers(text, 0n), call('declarations', [text], { isNumbers }),
     sheetText(text, 2n), sheetNumbers(text, 1n),
-    call('lint', [text, 1n]), call('refused_values', [text, 0n], { isNumbers }),
+    call('lint', [text, 1n]), call('taken', [text, 0n]), call('taken', [text, 3n]),
     call('clean', [text, policy, 0n]), call('clean', [text, policy, 1n]), call('dropped', [text, policy, 0n], { isNumbers }),
     call('html_encoding', [text, text]),
     call('close', [text]), sheetText(text, 0n), sheetText(text, 1n),
