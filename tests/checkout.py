@@ -1105,7 +1105,7 @@ class JavaScript(Checkout, release.Npm):
     def test_random_sheets(self) -> None:
         """They have the mistakes that the Python package finds, and are corrected alike."""
         words = ["node", os.path.join(TOP, "tests", "release", "linted.mjs"), self.unpacked()]
-        from simplecss import fixed
+        from simplecss._lint import fixed
 
         work = json.dumps(linted.sheets()).encode()
         got = json.loads(self.works(words, "linted.mjs", input=work).stdout)

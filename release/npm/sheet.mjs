@@ -149,7 +149,7 @@ export class StyleSheet {
    * rule. They are those of style rules with rules in them, and all of texts that declare namespaces.
    */
   * #placedRules(blocks) {
-    const every = new Winning(this.#statements(), () => true, this.#limit, true), texts = every.texts();
+    const every = new Winning(this.#statements(), () => true, this.#limit, ANY_VALUE), texts = every.texts();
     const found = every.rules.map((rule, index) => ({ ...rule, text: texts[index] }));
     found.sort((a, b) => a.sheet - b.sheet || a.start - b.start);
     const places = blocks.map(each => new Places(each));
