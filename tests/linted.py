@@ -50,9 +50,8 @@ class Random(random.Random):
         found = list(pieces)
         for _ in range(self.choice((1, 1, 2))):
             at = self.randrange(len(found))
-            found[at : at + 1] = self.choice(
-                ([], [found[at]] * 2, [self.choice(RARE)], [found[at], self.choice(self.others)])
-            )
+            ways: List[List[str]] = [[], [found[at]] * 2, [self.choice(RARE)]]
+            found[at : at + 1] = self.choice([*ways, [found[at], self.choice(self.others)]])
             if not found:
                 break
         return "".join(found)
@@ -100,7 +99,7 @@ def placed(text: str) -> List[Dict[str, Any]]:
             right = [*(source.offset(int(at)) for at in edit[:2]), *edit[2:]]
             place = [row, column, *source.position(source.offset(int(end)))]
             found.append({"kind": name, "place": place, "hint": hint or None, "edit": right})
-    return sorted(found, key=lambda one: one["place"][:2])
+    return sorted(found, key=lambda one: (one["place"][0], one["place"][1]))
 
 
 def in_python(text: str) -> List[Dict[str, Any]]:
