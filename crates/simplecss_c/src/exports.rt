@@ -21,7 +21,8 @@ ghost use Rattle.simplecss_calls.specs.Grammars.{grammar_of};
 ghost use Rattle.simplecss_calls.specs.GrammarCalls.{IsMatchSelectorsCall, IsRefusalCall};
 
 use call_answers::answer::{
-    CallError, TreeFault, copy_whole, hand_over, hand_over_numbers, hand_over_of_tree, hand_over_truth,
+    CallError, TreeFault, copy_whole, hand_over, hand_over_numbers, hand_over_of_tree,
+    hand_over_truth,
 };
 use call_answers::elements::PassedTree;
 use css_values::{INHERITED, LOGICAL, SHORTHANDS};
@@ -114,11 +115,7 @@ pub extern "C" fn simplecss_lint(
 }
 
 /// Hands over bytes, and returns the status of the call.
-fn hand_over_bytes(
-    outcome: Result<Vec<u8>, CallError>,
-    out: &mut [u8],
-    len: &mut usize,
-) -> u32
+fn hand_over_bytes(outcome: Result<Vec<u8>, CallError>, out: &mut [u8], len: &mut usize) -> u32
     ensures { Answers (numbers_outcome outcome) result out.old out.new len.new }
 {
     match outcome {
