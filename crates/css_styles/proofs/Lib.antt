@@ -9,6 +9,7 @@ mod RestLemmas
 mod RollingLemmas
 mod WinningLemmas
 mod GatherLemmas
+mod RememberedLemmas
 mod StyleLemmas
 mod RankLemmas
 mod FloorLemmas

@@ -2,3 +2,4 @@
 pub mod Stepping
 pub mod Numbered
 pub mod Floors
+pub mod Remembered

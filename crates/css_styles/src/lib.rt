@@ -22,6 +22,7 @@ mod asked;
 mod contenders;
 mod contest;
 mod decide;
+mod finder;
 mod floors;
 mod gathering;
 mod laws;

@@ -11,13 +11,8 @@ ghost use Rattle.css_styles.specs.Contenders.{contenders};
 ghost use Rattle.css_styles.specs.StyleViews.{IsMarkedInHtml, StylesText, names_of, own_of, winner_of};
 ghost use Rattle.css_styles.specs.Winners.{AreWinners, winners};
 
-use crate::asked::find_asked;
-use crate::contenders::Contender;
-use crate::contest::{Numbered, find_winners, make_room};
-use crate::floors::Standing;
-use crate::gathering::gather;
+use crate::finder::Finder;
 use crate::{Own, StyleRules, Winner};
-use css_cascade::Weight;
 use css_selectors::{Selector, Tests};
 use css_tree::{NumberedTree, TreeWalk};
 use std::alloc::{AllocError, Global};
@@ -38,18 +33,10 @@ pub struct Styles<'s, 'a, 'w, 'p, 't> {
     page: &'s NumberedTree<'p, 't>,
     /// The walk with their selectors.
     walk: TreeWalk<'s, 'w>,
-    /// The indices of the rules that match an element. This list and the others are reused.
+    /// The indices of the rules that match an element. This list is reused.
     matching: Vec<usize>,
-    /// The declarations that apply to it.
-    contenders: Vec<Numbered<'a>>,
-    /// Those of them that contend for one property.
-    rivals: Vec<Contender<'a>>,
-    /// The best of each property, by its number.
-    best: Vec<Option<Weight>>,
-    /// What each property is rolled back to, by its number.
-    standings: Vec<Standing>,
-    /// Allocates what a call needs.
-    alloc: Global,
+    /// Finds what wins by these rules.
+    finder: Finder<'s, 'a>,
 }
 
 impl<'s, 'a, 'w, 'p, 't> Model for Styles<'s, 'a, 'w, 'p, 't> {
@@ -68,7 +55,7 @@ impl<'s, 'a, 'w, 'p, 't> Model for Styles<'s, 'a, 'w, 'p, 't> {
     ghost view = { λ s. record { rules = s.rules.now.rules; page = s.page.now; walk = s.walk.walk } };
 
     ghost invariant = { λ s. (length s.walk.walk.selectors ≡ length s.rules.now.rules)
-        × IsOpenAt s.page.now s.walk.walk s.walk.place };
+        × IsOpenAt s.page.now s.walk.walk s.walk.place × (s.finder ≡ s.rules.now.rules) };
 }
 
 impl<'s, 'a, 'w, 'p, 't> Styles<'s, 'a, 'w, 'p, 't> {
@@ -78,22 +65,19 @@ impl<'s, 'a, 'w, 'p, 't> Styles<'s, 'a, 'w, 'p, 't> {
         rules: &'s StyleRules<'a>,
         page: &'s NumberedTree<'p, 't>,
         walk: TreeWalk<'s, 'w>,
-    ) -> Styles<'s, 'a, 'w, 'p, 't>
+    ) -> Result<Styles<'s, 'a, 'w, 'p, 't>, AllocError>
         requires selectors { length walk.walk.selectors ≡ length rules.now.rules }
         requires opened { IsOpenAt page.now walk.walk walk.place }
-        ensures { result ≡ record { rules = rules.now.rules; page = page.now; walk = walk.entry.walk } }
+        ensures { IfOk result (λ styles. styles
+            ≡ record { rules = rules.now.rules; page = page.now; walk = walk.entry.walk }) }
     {
-        Styles {
+        Ok(Styles {
             rules,
             page,
             walk,
             matching: Vec::new(alloc),
-            contenders: Vec::new(alloc),
-            rivals: Vec::new(alloc),
-            best: Vec::new(alloc),
-            standings: Vec::new(alloc),
-            alloc,
-        }
+            finder: Finder::new(alloc, rules)?,
+        })
     }
 
     /// Returns a walk over a page that is marked with the lists of the rules ([`StyleRules::lists`]), with an index of
@@ -110,7 +94,7 @@ impl<'s, 'a, 'w, 'p, 't> Styles<'s, 'a, 'w, 'p, 't> {
             ≡ map (λ rule. rule.selector) rules.now.rules) }
     {
         let walk = TreeWalk::new(alloc, rules.as_slice())?;
-        Ok(Styles::with_walk(alloc, rules, page, walk))
+        Styles::with_walk(alloc, rules, page, walk)
     }
 
     /// Returns a walk over a page of an HTML document, with an index of these selectors, which are those of the rules as
@@ -128,7 +112,7 @@ impl<'s, 'a, 'w, 'p, 't> Styles<'s, 'a, 'w, 'p, 't> {
         ensures selectors { IfOk result (λ styles. styles.walk.selectors ≡ selectors.now) }
     {
         let walk = TreeWalk::new(alloc, selectors)?;
-        Ok(Styles::with_walk(alloc, rules, page, walk))
+        Styles::with_walk(alloc, rules, page, walk)
     }
 
     /// Returns how many rules there are.
@@ -192,17 +176,7 @@ impl<'s, 'a, 'w, 'p, 't> Styles<'s, 'a, 'w, 'p, 't> {
         let page = self.page;
         self.walk
             .matching(page, element, &mut self.matching, tests)?;
-        let all = &mut self.contenders;
-        let count = gather(self.alloc, self.rules, &self.matching, own, all)?;
-        make_room(&mut self.best, &mut self.standings, count)?;
-        let best = &mut self.best;
-        find_winners(
-            self.alloc,
-            &mut self.contenders,
-            best,
-            &mut self.standings,
-            found,
-        )
+        self.finder.winners(&self.matching, own, found)
     }
 
     /// Finds for each of these properties the declaration that wins on the element at an index that has these
@@ -238,8 +212,6 @@ impl<'s, 'a, 'w, 'p, 't> Styles<'s, 'a, 'w, 'p, 't> {
         let page = self.page;
         self.walk
             .matching(page, element, &mut self.matching, tests)?;
-        let all = &mut self.contenders;
-        gather(self.alloc, self.rules, &self.matching, own, all)?;
-        find_asked(self.alloc, asked, &self.contenders, &mut self.rivals, found)
+        self.finder.winners_named(&self.matching, own, asked, found)
     }
 }

@@ -1,4 +1,8 @@
 //! Declarations that win.
+ghost use Rattle.std.specs.Prelude.{◌≡◌, true};
+ghost use Rattle.css_styles.specs.StyleViews.{own_of};
+ghost use Rattle.css_styles.specs.internal.Remembered.{no_own};
+
 use css_syntax::Declaration;
 
 /// Where a declaration is.
@@ -30,4 +34,13 @@ pub struct Own<'a> {
     pub style: &'a str,
     /// What its other attributes say, as declarations in such a text: presentational hints.
     pub presentation: &'a str,
+}
+
+impl<'a> Own<'a> {
+    /// Whether both texts are empty.
+    pub(crate) fn is_empty(&self) -> bool
+        ensures { result ≡ true → own_of self.now ≡ no_own }
+    {
+        self.style.is_empty() && self.presentation.is_empty()
+    }
 }

@@ -1,5 +1,6 @@
 use Rattle.std.proofs.Common.{◌∙◌, length, ap}
 use Rattle.std.proofs.lemmas.List.{length-map, map-id}
+use Rattle.std.proofs.lemmas.Result.{IfOk-weaker}
 use Rattle.css_sheet.specs.SheetOrder.{SheetRuleText}
 use Rattle.css_tree.specs.Html.{html_selector}
 use Rattle.css_styles.proofs.styles.Styles.in_html.Goals as goal
@@ -12,7 +13,16 @@ with_walk-requires-clause-selectors c =
 pub with_walk-requires-clause-opened : goal.with_walk-requires-clause-opened
 with_walk-requires-clause-opened c = c.in_ok-walk.ensures.opened c.args.page.now
 
+pub returns-clause-rules : goal.returns-clause-rules
+returns-clause-rules c =
+    IfOk-weaker c.with_walk.result _ _ (λ styles is. ap (λ v. v.rules) is) c.with_walk.ensures
+
+pub returns-clause-page : goal.returns-clause-page
+returns-clause-page c =
+    IfOk-weaker c.with_walk.result _ _ (λ styles is. ap (λ v. v.page) is) c.with_walk.ensures
+
 pub returns-clause-selectors : goal.returns-clause-selectors
 returns-clause-selectors c =
-    ap (λ v. v.walk.selectors) c.with_walk.ensures ∙ c.in_ok-walk.ensures.selectors
-    ∙ map-id c.args.selectors.now
+    IfOk-weaker c.with_walk.result _ _
+    (λ styles is. ap (λ v. v.walk.selectors) is ∙ c.in_ok-walk.ensures.selectors ∙ map-id c.args.selectors.now)
+    c.with_walk.ensures

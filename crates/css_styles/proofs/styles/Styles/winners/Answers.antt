@@ -1,5 +1,4 @@
-use Rattle.std.proofs.Common.{List, ℕ, ◌<◌, ◌≤◌, ◌∙◌, length, map, sym, ap, subst, arith}
-use Rattle.std.specs.Vec.{vec_len}
+use Rattle.std.proofs.Common.{List, ℕ, ◌<◌, ◌∙◌, length, sym, ap, subst}
 use Rattle.std.specs.List.{All}
 use Rattle.css_matching.specs.ListTrees.{spot}
 use Rattle.css_index.specs.Found.{AreMatches}
@@ -7,7 +6,7 @@ use Rattle.css_index.specs.Tested.{AreTried}
 use Rattle.css_tree.specs.Pages.{page_document}
 use Rattle.css_tree.specs.Reports.{reported_of}
 use Rattle.css_styles.specs.StyleViews.{StylesText, own_of}
-use Rattle.css_styles.specs.Winners.{applied, as_winner, winners}
+use Rattle.css_styles.specs.Winners.{winners}
 use Rattle.css_styles.proofs.GatherLemmas.{then-ok}
 use Rattle.css_styles.proofs.StyleLemmas.{found-within}
 use Rattle.css_styles.proofs.styles.Styles.winners.Goals as goal
@@ -15,25 +14,11 @@ use Rattle.css_styles.proofs.styles.Styles.winners.Goals as goal
 pub matching-requires-clause-opened : goal.matching-requires-clause-opened
 matching-requires-clause-opened c = c.self.invariant.1
 
-pub gather-requires : goal.gather-requires
-gather-requires c =
-    subst (All (λ index. index < length c.self.inside.rules.now.rules)) (sym c.deref.ensures.value)
-    (found-within _ _ _ _ _ c.self.invariant.0 c.in_ok-matching.ensures.matches)
-
-pub find_winners-requires : goal.find_winners-requires
-find_winners-requires c =
-    let numbered = c.in_ok-count.ensures.numbered in
-    let best : c.in_ok-count.count ≤ vec_len c.make_room.new.best = c.in_ok-make_room.ensures.best in
-    let standings : c.in_ok-count.count ≤ vec_len c.make_room.new.standings =
-    c.in_ok-make_room.ensures.standings in
-    let best_len = c.deref_mut.ensures.len in
-    let standings_len = c.deref_mut-2.ensures.len in
-    let count = numbered.1 in (
-      numbered.0,
-      omega (arith, best, best_len, count),
-      omega (arith, standings, standings_len, count),
-      numbered.2,
-    )
+pub winners-requires : goal.winners-requires
+winners-requires c =
+    subst (All (λ index. index < length c.self.inside.finder)) (sym c.deref.ensures.value)
+    (found-within _ _ _ _ _ (c.self.invariant.0 ∙ ap length (sym c.self.invariant.2))
+    c.in_ok-matching.ensures.matches)
 
 pub returns-clause-winners : goal.returns-clause-winners
 returns-clause-winners c =
@@ -43,20 +28,20 @@ returns-clause-winners c =
     let found =
     subst (AreMatches page_document node c.self.inside.walk.walk.selectors) (sym c.deref.ensures.value)
     c.in_ok-matching.ensures.matches in
-    then-ok c.find_winners.result
-    (λ applied_to. (
+    then-ok c.winners.result
+    (λ won. (
       indices,
       subst (λ (v : StylesText). AreMatches page_document (spot v.page c.args.element) v.walk.selectors indices)
           c.self.view_is found,
-      applied_to
-          ∙ ap (λ cs. map as_winner (applied cs)) c.in_ok-count.ensures.contenders
+      won
+          ∙ ap (λ rules. winners rules indices own) c.self.invariant.2
           ∙ ap (λ (v : StylesText). winners v.rules indices own) c.self.view_is,
-    )) c.find_winners.ensures.applied
+    )) c.winners.ensures.winners
 
 pub returns-clause-tests : goal.returns-clause-tests
 returns-clause-tests c =
-    then-ok c.find_winners.result
+    then-ok c.winners.result
     (λ found. subst (λ (v : StylesText). (tried : List ℕ)
     × AreTried page_document (spot v.page c.args.element) (reported_of (spot v.page c.args.element))
     c.matching.new.self.walk tried c.args.tests.now c.matching.new.tests)
-    c.self.view_is c.in_ok-matching.ensures.tests) c.find_winners.ensures.applied
+    c.self.view_is c.in_ok-matching.ensures.tests) c.winners.ensures.winners

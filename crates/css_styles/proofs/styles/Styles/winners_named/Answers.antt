@@ -1,4 +1,5 @@
-use Rattle.std.proofs.Common.{List, ℕ, ◌≡◌, ◌<◌, ◌∙◌, length, map, sym, ap, subst}
+use Rattle.std.proofs.Common.{List, ℕ, ◌<◌, ◌∙◌, length, map, sym, ap, subst}
+use Rattle.std.specs.Prelude.{option_map}
 use Rattle.std.specs.List.{All}
 use Rattle.css_matching.specs.ListTrees.{spot}
 use Rattle.css_index.specs.Found.{AreMatches}
@@ -6,22 +7,20 @@ use Rattle.css_index.specs.Tested.{AreTried}
 use Rattle.css_tree.specs.Pages.{page_document}
 use Rattle.css_tree.specs.Reports.{reported_of}
 use Rattle.css_styles.specs.Contenders.{contenders}
-use Rattle.css_styles.specs.StyleViews.{StylesText, names_of, own_of}
+use Rattle.css_styles.specs.StyleViews.{StylesText, names_of, own_of, winner_of}
 use Rattle.css_styles.specs.Winners.{AreWinners}
-use Rattle.css_styles.specs.internal.Numbered.{numbered_of}
-use Rattle.css_styles.specs.internal.Stepping.{best_named}
 use Rattle.css_styles.proofs.GatherLemmas.{then-ok}
 use Rattle.css_styles.proofs.StyleLemmas.{found-within}
-use Rattle.css_styles.proofs.WinningLemmas.{are-winners}
 use Rattle.css_styles.proofs.styles.Styles.winners_named.Goals as goal
 
 pub matching-requires-clause-opened : goal.matching-requires-clause-opened
 matching-requires-clause-opened c = c.self.invariant.1
 
-pub gather-requires : goal.gather-requires
-gather-requires c =
-    subst (All (λ index. index < length c.self.inside.rules.now.rules)) (sym c.deref.ensures.value)
-    (found-within _ _ _ _ _ c.self.invariant.0 c.in_ok-matching.ensures.matches)
+pub winners_named-requires : goal.winners_named-requires
+winners_named-requires c =
+    subst (All (λ index. index < length c.self.inside.finder)) (sym c.deref.ensures.value)
+    (found-within _ _ _ _ _ (c.self.invariant.0 ∙ ap length (sym c.self.invariant.2))
+    c.in_ok-matching.ensures.matches)
 
 pub returns-clause-winners : goal.returns-clause-winners
 returns-clause-winners c =
@@ -32,23 +31,20 @@ returns-clause-winners c =
     let found =
     subst (AreMatches page_document node c.self.inside.walk.walk.selectors) (sym c.deref.ensures.value)
     c.in_ok-matching.ensures.matches in
-    let whole : map numbered_of c.deref-2.result.now ≡ contenders c.args.self.now.rules indices own =
-    ap (map numbered_of) c.deref-2.ensures.value ∙ c.in_ok-gather.ensures.contenders
-    ∙ ap (λ (v : StylesText). contenders v.rules indices own) c.self.view_is in
-    then-ok c.find_asked.result
-    (λ best. (
+    let same = c.self.invariant.2 ∙ ap (λ (v : StylesText). v.rules) c.self.view_is in
+    then-ok c.winners_named.result
+    (λ won. (
       indices,
       subst (λ (v : StylesText). AreMatches page_document (spot v.page c.args.element) v.walk.selectors indices)
           c.self.view_is found,
-      subst (AreWinners (contenders c.args.self.now.rules indices own) asked)
-          (sym (best ∙ ap (λ cs. map (best_named cs) asked) whole))
-          (are-winners (contenders c.args.self.now.rules indices own) asked),
-    )) c.find_asked.ensures.winners
+      subst (λ rules. AreWinners (contenders rules indices own) asked
+          (map (option_map winner_of) c.winners_named.new.found.items)) same won,
+    )) c.winners_named.ensures.winners
 
 pub returns-clause-tests : goal.returns-clause-tests
 returns-clause-tests c =
-    then-ok c.find_asked.result
+    then-ok c.winners_named.result
     (λ found. subst (λ (v : StylesText). (tried : List ℕ)
     × AreTried page_document (spot v.page c.args.element) (reported_of (spot v.page c.args.element))
     c.matching.new.self.walk tried c.args.tests.now c.matching.new.tests)
-    c.self.view_is c.in_ok-matching.ensures.tests) c.find_asked.ensures.winners
+    c.self.view_is c.in_ok-matching.ensures.tests) c.winners_named.ensures.winners
