@@ -44,13 +44,23 @@ impl<'a> Slot<'a> {
     }
 }
 
-/// Returns the number of the slot for these indices.
-fn slot_number(indices: &[usize]) -> usize {
+/// Returns a number for these indices.
+fn number_of(indices: &[usize]) -> usize {
     let mut number: usize = 0;
     for index in indices {
         number = number.wrapping_mul(37).wrapping_add(*index);
     }
-    (number.wrapping_mul(0x9E37_79B9_7F4A_7C15) >> 32) % SLOTS
+    number.wrapping_mul(0x9E37_79B9_7F4A_7C15) >> 32
+}
+
+/// Whether this number was the last one at its place, where it is from now on.
+fn comes_again(numbers: &mut [usize], number: usize) -> bool {
+    let Some(last) = numbers.get_mut(number % SLOTS) else {
+        return false;
+    };
+    let is_last = *last == number;
+    *last = number;
+    is_last
 }
 
 /// Finds which declarations win by the rules that match an element. What wins on an element with no declarations of its own
@@ -61,6 +71,8 @@ pub(crate) struct Finder<'s, 'a> {
     rules: &'s StyleRules<'a>,
     /// What is remembered, each result at the number of its indices.
     slots: Vec<Option<Slot<'a>>>,
+    /// The last number at each place. What wins is remembered when its number comes again.
+    numbers: [usize; SLOTS],
     /// The declarations that apply to an element. This list and the others are reused.
     contenders: Vec<Numbered<'a>>,
     /// Those of them that contend for one property.
@@ -107,6 +119,7 @@ impl<'s, 'a> Finder<'s, 'a> {
         Ok(Finder {
             rules,
             slots,
+            numbers: [0; SLOTS],
             contenders: Vec::new(alloc),
             rivals: Vec::new(alloc),
             best: Vec::new(alloc),
@@ -119,23 +132,27 @@ impl<'s, 'a> Finder<'s, 'a> {
     fn remembered(&self, indices: &[usize]) -> Option<&[Winner<'a>]>
         ensures { IfSome result (λ found. map winner_of found.now ≡ winners self.now indices.now no_own) }
     {
-        match self.slots.get(slot_number(indices)) {
+        match self.slots.get(number_of(indices) % SLOTS) {
             Some(Some(slot)) if slot.indices.as_slice() == indices => Some(slot.found.as_slice()),
             _ => None,
         }
     }
 
-    /// Remembers what wins where the rules with these indices match, unless it is long.
+    /// Remembers what wins where the rules with these indices match, if they come again and it is not long.
     fn remember(&mut self, indices: &[usize], found: &[Winner<'a>]) -> Result<(), AllocError>
         requires { map winner_of found.now ≡ winners self.old indices.now no_own }
         ensures { self.new ≡ self.old }
     {
-        let number = slot_number(indices);
-        if number >= self.slots.len() || indices.len() > MOST || found.len() > MOST {
+        let number = number_of(indices);
+        if !comes_again(&mut self.numbers, number) {
+            return Ok(());
+        }
+        let place = number % SLOTS;
+        if place >= self.slots.len() || indices.len() > MOST || found.len() > MOST {
             return Ok(());
         }
         let slot = Slot::new(self.alloc, indices, found)?;
-        self.slots[number] = Some(slot);
+        self.slots[place] = Some(slot);
         Ok(())
     }
 

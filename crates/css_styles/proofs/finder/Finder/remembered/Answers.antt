@@ -10,7 +10,7 @@ pub returns-in-Some-Some : goal.returns-in-Some-Some
 returns-in-Some-Some c =
     let rules = c.self.inside.rules.now.rules in
     let slot = c.in-Some-Some.slot in
-    let holds = slot-read rules c.self.inside.slots.items c.deref.result.now c.slot_number.result
+    let holds = slot-read rules c.self.inside.slots.items c.deref.result.now _
     c.in-Some-Some.field-0.now slot c.deref.ensures.value c.self.invariant
     c.in-Some-Some.ensures.lookup.3.0 c.in-Some-Some.ensures.lookup.1 c.in-Some-Some.field-0-is in
     let equal : slot.indices.items ≡ c.args.indices.now =
