@@ -46,11 +46,11 @@ impl<'a> Slot<'a> {
 
 /// Returns a number for these indices.
 fn number_of(indices: &[usize]) -> usize {
-    let mut number: usize = 0;
+    let mut number: u64 = 0;
     for index in indices {
-        number = number.wrapping_mul(37).wrapping_add(*index);
+        number = number.wrapping_mul(37).wrapping_add(*index as u64);
     }
-    number.wrapping_mul(0x9E37_79B9_7F4A_7C15) >> 32
+    (number.wrapping_mul(0x9E37_79B9_7F4A_7C15) >> 32) as usize
 }
 
 /// Whether this number was the last one at its place, where it is from now on.
