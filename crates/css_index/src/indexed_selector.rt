@@ -7,7 +7,8 @@ ghost use Rattle.css_selectors.specs.Costs.{most_tests};
 ghost use Rattle.css_index.specs.Tested.{least_of, most_of};
 
 use crate::Keyed;
-use css_selectors::{Matching, Selector, Tests, begins_with_key, is_only_keys, matches_after_key};
+use css_selectors::on_marked::{matches_after_key, matches_counted};
+use css_selectors::{Selector, Tests, begins_with_key, is_only_keys};
 
 /// A selector, and whether it has to be tested.
 #[derive(Clone, Copy)]
@@ -50,7 +51,7 @@ impl<'s, 'a> IndexedSelector<'s, 'a> {
         if self.begins_with_key {
             matches_after_key(self.selector, element, tests)
         } else {
-            self.selector.matches_counted(element, tests)
+            matches_counted(self.selector, element, tests)
         }
     }
 

@@ -7,10 +7,14 @@
 //!
 //! ```text
 //! let selectors = Selector::parse_list(alloc, "p.note, ul > li, :is(h1, h2)")?;
-//! let index = SelectorIndex::new(alloc, selectors.as_slice())?;
-//! let mut indices = Vec::new(alloc);
-//! index.matching(&element, &mut indices)?;
+//! if let Some(index) = SelectorIndex::new(alloc, selectors.as_slice())? {
+//!     let mut indices = Vec::new(alloc);
+//!     index.matching(&element, &mut indices)?;
+//! }
 //! ```
+//!
+//! Selectors that need a page have no such index. For the elements of a page that is marked with their lists there is
+//! [`SelectorIndex::on_marked`].
 //!
 //! The items of the index are any type with [`HasSelector`], as a rule with declarations, or
 //! references to selectors. A search costs a look-up for the name, the id, each class and each

@@ -1,5 +1,7 @@
 //! An index of rules by the keys of their selectors.
-ghost use Rattle.std.specs.Prelude.{◌≡◌, ◌+◌, ◌≤◌, ◌↔◌, ◌++◌, ◌∷◌, ℕ, List, [], Contains, IsTrue, IfOk, OnOk, OnErr, map};
+ghost use Rattle.std.specs.Prelude.{◌≡◌, ◌+◌, ◌≤◌, ◌↔◌, ◌++◌, ◌∷◌, ℕ, List, [], Contains, IsTrue, IfOk, IfSome, OnOk, OnErr, is_none, map};
+ghost use Rattle.std.specs.List.{list_any};
+ghost use Rattle.css_selectors.specs.PageNeeds.{needs_page};
 ghost use Rattle.css_index.specs.Found.{AreMatches};
 ghost use Rattle.css_index.specs.Tested.{IsKeyedAt, least_tests, most_tests_at};
 ghost use Rattle.css_index.specs.internal.Candidates.{PassesAt};
@@ -9,7 +11,7 @@ use crate::keeping::{Everything, Keeping};
 use crate::table::{Table, filed};
 use crate::{HasSelector, Keyed};
 use css_matching::sort_once;
-use css_selectors::{Selector, Tests};
+use css_selectors::{Selector, Tests, some_needs_page};
 use std::alloc::{AllocError, Global};
 use std::marker::Model;
 
@@ -84,9 +86,25 @@ fn kept_of<'s, 'a>(
 }
 
 impl<'s, 'a> SelectorIndex<'s, 'a> {
-    /// Returns an index of the selectors of rules, which it borrows. It holds an entry for each key
-    /// of each selector. Fails only if an allocation fails.
+    /// Returns an index of the selectors of rules, which it borrows, for any elements, or `None` if one of the
+    /// selectors [needs a page](css_selectors::needs_page). It holds an entry for each key of each selector. Fails
+    /// only if an allocation fails.
     pub fn new<T: HasSelector<'a>>(
+        alloc: Global,
+        rules: &'s [T],
+    ) -> Result<Option<SelectorIndex<'s, 'a>>, AllocError>
+        ensures none { IfOk result (λ found. is_none found ≡ list_any needs_page (map T.selector_in rules.now)) }
+        ensures selectors { IfOk result (λ found. IfSome found (λ index. index ≡ map T.selector_in rules.now)) }
+    {
+        if some_needs_page(rules) {
+            return Ok(None);
+        }
+        Ok(Some(SelectorIndex::on_marked(alloc, rules)?))
+    }
+
+    /// Returns an index for elements of pages that are marked with all lists that the selectors ask by numbers. Of other
+    /// elements it finds what is wrong without a sign.
+    pub fn on_marked<T: HasSelector<'a>>(
         alloc: Global,
         rules: &'s [T],
     ) -> Result<SelectorIndex<'s, 'a>, AllocError>
@@ -96,9 +114,8 @@ impl<'s, 'a> SelectorIndex<'s, 'a> {
         SelectorIndex::from_selectors(alloc, selectors)
     }
 
-    /// Returns an index of the selectors, as [`SelectorIndex::new`] does. So selectors of several
-    /// lists, or of rules of several types, can have one index.
-    pub fn from_selectors(
+    /// Returns an index of the selectors, as [`SelectorIndex::on_marked`] does.
+    pub(crate) fn from_selectors(
         alloc: Global,
         selectors: Vec<&'s Selector<'a>>,
     ) -> Result<SelectorIndex<'s, 'a>, AllocError>

@@ -1,9 +1,10 @@
 //! A walk along a page.
-ghost use Rattle.std.specs.Prelude.{◌≡◌, ◌+◌, ◌≤◌, ◌↔◌, ◌++◌, ◌∷◌, if◌then◌else◌, ℕ, List, [], Some, Contains, IsTrue, IfOk, OnOk, OnErr, map};
-ghost use Rattle.std.specs.List.{sum_by};
+ghost use Rattle.std.specs.Prelude.{◌≡◌, ◌+◌, ◌≤◌, ◌↔◌, ◌++◌, ◌∷◌, if◌then◌else◌, ℕ, List, [], Some, Contains, IsTrue, IfOk, IfSome, OnOk, OnErr, is_none, map};
+ghost use Rattle.std.specs.List.{list_any, sum_by};
 ghost use Rattle.std.specs.List.Sorted.{IsStrictlyIncreasing};
 ghost use Rattle.css_open_elements.specs.Opened.{all_but_last};
 ghost use Rattle.css_selectors.specs.AncestorKeys.{ancestor_keys, parent_keys};
+ghost use Rattle.css_selectors.specs.PageNeeds.{needs_page};
 ghost use Rattle.css_index.specs.Found.{AreAll, AreMatches};
 ghost use Rattle.css_index.specs.Walks.{AreNumbered, AreNumbersOf, AreNeeds, IsMore};
 ghost use Rattle.css_index.specs.Walks.{IsOpenTo};
@@ -19,7 +20,7 @@ use crate::table::Table;
 use crate::{HasSelector, Keyed};
 use css_matching::sort_once;
 use css_open_elements::OpenElements;
-use css_selectors::{Key, Selector, Tests, push_ancestor_keys, push_parent_keys};
+use css_selectors::{Key, Selector, Tests, push_ancestor_keys, push_parent_keys, some_needs_page};
 use std::alloc::{AllocError, Global};
 use std::marker::Model;
 
@@ -134,9 +135,26 @@ impl<'s, 'a> Model for SelectorWalk<'s, 'a> {
 }
 
 impl<'s, 'a> SelectorWalk<'s, 'a> {
-    /// Returns an index of the selectors of rules, with no element open. Fails only if an allocation
-    /// fails.
+    /// Returns an index of the selectors of rules for a walk along any elements, with none open, or `None` if one of
+    /// the selectors [needs a page](css_selectors::needs_page). Fails only if an allocation fails.
     pub fn new<T: HasSelector<'a>>(
+        alloc: Global,
+        rules: &'s [T],
+    ) -> Result<Option<SelectorWalk<'s, 'a>>, AllocError>
+        ensures none { IfOk result (λ found. is_none found ≡ list_any needs_page (map T.selector_in rules.now)) }
+        ensures selectors { IfOk result (λ found. IfSome found (λ walk.
+            walk.selectors ≡ map T.selector_in rules.now)) }
+        ensures opened { IfOk result (λ found. IfSome found (λ walk. walk.opened ≡ [])) }
+    {
+        if some_needs_page(rules) {
+            return Ok(None);
+        }
+        Ok(Some(SelectorWalk::on_marked(alloc, rules)?))
+    }
+
+    /// Returns an index for a walk along a page that is marked with all lists that the selectors ask by numbers, with no
+    /// element open. Along other elements it finds what is wrong without a sign.
+    pub fn on_marked<T: HasSelector<'a>>(
         alloc: Global,
         rules: &'s [T],
     ) -> Result<SelectorWalk<'s, 'a>, AllocError>

@@ -1,11 +1,10 @@
 //! Which declarations are written into the attributes of each element, and which statements are left for some.
 ghost use Rattle.std.specs.Prelude.{◌≡◌, ◌<◌, length};
-ghost use Rattle.css_tree.specs.Walks.{IsOpenAt};
 
 use crate::elements::{Element, Elements};
 use crate::sheets::{Rule, Rules, Stated, goes_back, is_all};
-use css_selectors::{Selector, Tests};
-use css_tree::{NumberedTree, TreeWalk};
+use css_selectors::{Numbering, Selector, Tests};
+use css_tree::{MarkingError, NumberedTree, TreeWalk};
 use std::alloc::{AllocError, AllocFailed, Global};
 
 /// How many tests of a selector on an element are as much work as one declaration.
@@ -23,6 +22,15 @@ pub(crate) enum Stop {
 impl From<AllocError> for Stop {
     fn from(_error: AllocError) -> Stop {
         Stop::Memory
+    }
+}
+
+impl From<MarkingError> for Stop {
+    fn from(error: MarkingError) -> Stop {
+        match error {
+            MarkingError::Memory => Stop::Memory,
+            MarkingError::TooManyAnswers => Stop::TooLong,
+        }
     }
 }
 
@@ -550,20 +558,17 @@ fn decide_element(
 /// Decides what is written of the element at an index.
 fn decide_at(
     alloc: Global,
-    walk: &mut TreeWalk<'_, '_>,
-    page: &NumberedTree<'_, '_>,
+    walk: &mut TreeWalk<'_, '_, '_, '_>,
     index: usize,
     asked: &Asked<'_, '_>,
     decider: &mut Decider,
     decided: &mut Decided,
 ) -> Result<(), Stop>
-    requires element { index < length page.now.rows }
-    requires opened { IsOpenAt page.now walk.old.walk walk.old.place }
-    ensures opened { IsOpenAt page.now walk.new.walk walk.new.place }
-    ensures selectors { walk.new.walk.selectors ≡ walk.old.walk.selectors }
+    requires { index < length walk.old.page.rows }
+    ensures { walk.new.page ≡ walk.old.page }
 {
     let mut indices = Vec::new(alloc);
-    walk.matching(page, index, &mut indices, &mut Tests::new())?;
+    walk.matching(index, &mut indices, &mut Tests::new())?;
     if let Some(element) = asked.elements.all.get(index) {
         decide_element(alloc, asked, element, indices.as_slice(), decider, decided)?;
     }
@@ -573,16 +578,13 @@ fn decide_at(
 /// Decides what is written of each element of a page.
 fn decide_each(
     alloc: Global,
-    walk: &mut TreeWalk<'_, '_>,
-    page: &NumberedTree<'_, '_>,
+    walk: &mut TreeWalk<'_, '_, '_, '_>,
     asked: &Asked<'_, '_>,
     decider: &mut Decider,
     decided: &mut Decided,
-) -> Result<(), Stop>
-    requires { IsOpenAt page.now walk.old.walk walk.old.place }
-{
-    for index in 0..page.len() {
-        decide_at(alloc, walk, page, index, asked, decider, decided)?;
+) -> Result<(), Stop> {
+    for index in 0..walk.element_count() {
+        decide_at(alloc, walk, index, asked, decider, decided)?;
     }
     Ok(())
 }
@@ -601,11 +603,11 @@ fn undecided(alloc: Global, tags: usize, statements: usize) -> Result<Decided, A
 }
 
 /// Decides what is written of the elements of a page with this many tags, by selectors of the rules as the page
-/// reads them.
+/// reads them. The page is marked with the lists that they ask.
 pub(crate) fn decide(
     alloc: Global,
-    page: &NumberedTree<'_, '_>,
-    selectors: &[Selector<'_>],
+    page: &mut NumberedTree<'_, '_>,
+    selectors: Vec<Selector<'_>>,
     asked: &Asked<'_, '_>,
     tags: usize,
 ) -> Result<Decided, Stop> {
@@ -613,9 +615,12 @@ pub(crate) fn decide(
     if tests / MOST_TESTS > asked.room {
         return Err(Stop::TooLong);
     }
-    let mut walk = TreeWalk::new(alloc, selectors)?;
+    let mut numbering = Numbering::new(alloc);
+    let selectors = numbering.number_all(alloc, selectors)?;
+    page.mark(alloc, numbering.lists(), asked.room)?;
+    let mut walk = TreeWalk::new(alloc, &selectors, page)?;
     let mut decider = Decider::new(alloc, asked.rules, asked.room)?;
     let mut decided = undecided(alloc, tags, asked.rules.statements.len())?;
-    decide_each(alloc, &mut walk, page, asked, &mut decider, &mut decided)?;
+    decide_each(alloc, &mut walk, asked, &mut decider, &mut decided)?;
     Ok(decided)
 }

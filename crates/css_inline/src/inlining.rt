@@ -232,7 +232,7 @@ fn decided(
         Ok(tree) => tree,
         Err(error) => return Err(Failure::from(error).into()),
     };
-    let numbered = source.elements.numbered(alloc, &source.page, &tree)?;
+    let mut numbered = source.elements.numbered(alloc, &source.page, &tree)?;
     let selectors = source.rules.selectors.as_slice();
     let selectors = html_selectors(alloc, mode_of(&source.page), selectors)?;
     let asked = Asked {
@@ -242,7 +242,7 @@ fn decided(
         room: options.limit,
     };
     let tags = source.page.tags.len();
-    Ok(decide(alloc, &numbered, selectors.as_slice(), &asked, tags)?)
+    Ok(decide(alloc, &mut numbered, selectors, &asked, tags)?)
 }
 
 /// Whether something of a statement stays.

@@ -61,7 +61,7 @@ pub fn begins_with_key(selector: &Selector<'_>) -> bool
 }
 
 /// Whether the selector, which begins with its key, matches an element that has this key, as
-/// `Matching::matches_counted` says. The key is not tested again.
+/// `matches_counted` says. The key is not tested again.
 pub fn matches_after_key<E: Element>(
     selector: &Selector<'_>,
     element: &E,

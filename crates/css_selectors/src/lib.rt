@@ -8,7 +8,7 @@
 //! `&` stands for a list of selectors by its number, and `:has()` and a list after `An+B` are answered for all
 //! elements of a document at once: [`Numbering`] puts the number of their list in place of them. One element does not
 //! answer these, and [`Matching::matches`] then returns `None`. An element of a page that is marked with the lists
-//! ([`MarkedList`]) says in which it is, and [`Matching::matches_counted`] asks it.
+//! ([`MarkedList`]) says in which it is, and what is in [`on_marked`] asks it.
 //!
 //! Each element that a selector matches has one of the selector's keys ([`push_keys`]), by which an index
 //! finds the selectors that an element may match.
@@ -28,9 +28,10 @@ mod nesting_laws;
 mod numbering;
 mod numbering_laws;
 mod occurrences;
+pub mod on_marked;
 mod page_needs;
 
-pub use after_key::{begins_with_key, matches_after_key};
+pub use after_key::begins_with_key;
 pub use ancestor_keys::{is_only_keys, push_ancestor_keys, push_parent_keys};
 pub use css_matching::Tests;
 pub use css_selector_text::{
@@ -43,6 +44,5 @@ pub use element::{Element, NamespacedAttribute};
 pub use key::{Key, push_keys};
 pub use marked_list::MarkedList;
 pub use matching::Matching;
-pub use meeting::{matches_any, meets};
 pub use numbering::Numbering;
-pub use page_needs::needs_page;
+pub use page_needs::{needs_page, some_needs_page};

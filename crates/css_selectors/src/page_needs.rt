@@ -1,11 +1,13 @@
 //! Whether a selector asks more than one element answers.
 ghost use Rattle.std.specs.Prelude.{◌≡◌, ◌||◌, false, map};
+ghost use Rattle.std.specs.List.{list_any};
 ghost use Rattle.css_selector_text.specs.Components.{conditions_from, parts_from, selectors_from};
 ghost use Rattle.css_selector_text.specs.Views.{complex_of, condition_of, part_of, simple_of};
 ghost use Rattle.css_selectors.specs.PageNeeds.{asks_list as asks_list_of, asks_page as asks_page_of, compound_asks_page as compound_asks_page_of};
 ghost use Rattle.css_selectors.specs.PageNeeds.{needs_page as needs_page_of, parts_ask_page as parts_ask_page_of, some_ask_page as some_ask_page_of};
 
 use crate::{Complex, Condition, Part, Selector, Simple};
+use css_selector_text::HasSelector;
 
 /// Whether one of the two holds.
 fn either(one: bool, other: bool) -> bool
@@ -92,4 +94,18 @@ pub fn needs_page(selector: &Selector<'_>) -> bool
     ensures { result ≡ needs_page_of selector.now }
 {
     parts_ask_page(false, selector.parts())
+}
+
+/// Whether one of the selectors of rules [needs a page](needs_page).
+pub fn some_needs_page<'a, T: HasSelector<'a>>(rules: &[T]) -> bool
+    ensures { result ≡ list_any needs_page_of (map T.selector_in rules.now) }
+{
+    let mut rest = rules;
+    'rules: while let [rule, after @ ..] = rest {
+        if needs_page(rule.selector()) {
+            return true;
+        }
+        rest = after;
+    }
+    false
 }

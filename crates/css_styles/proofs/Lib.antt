@@ -1,3 +1,4 @@
+mod AnsweredRules
 mod BestLemmas
 mod NumberLemmas
 mod IndexLemmas

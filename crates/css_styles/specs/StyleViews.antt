@@ -1,11 +1,12 @@
 -- What contracts see of rules with their declarations, of a walk with them, and of winners.
-use Rattle.std.specs.Prelude.{◌≡◌, ℕ, List, map}
+use Rattle.std.specs.Prelude.{◌≡◌, ℕ, All, List, length, map}
 use Rattle.std.specs.Borrow.{Bor}
 use Rattle.css_syntax.specs.Views.{declaration_of}
 use Rattle.css_index.specs.Walks.{Walk}
 use Rattle.css_selector_text.specs.Components.{Selector}
 use Rattle.css_selectors.specs.MarkedLists.{ListText}
 use Rattle.css_sheet.specs.SheetOrder.{SheetRuleText}
+use Rattle.css_tree.specs.Answered.{SelectorIsAnswered}
 use Rattle.css_tree.specs.Html.{html_selector, list_in}
 use Rattle.css_tree.specs.Marks.{AreMarked}
 use Rattle.css_tree.specs.Pages.{Page}
@@ -27,6 +28,10 @@ pub record StylesText : Type 0 where
   pub rules : List SheetRuleText
   pub page : Page
   pub walk : Walk
+
+-- a page that is marked with these lists answers the selectors of the rules
+abbrev pub AreAnswered : List SheetRuleText → List ListText → Type 0
+AreAnswered rules lists = All (λ rule. SelectorIsAnswered (length lists) rule.selector) rules
 
 -- The selectors are those of the rules as an HTML document in some mode reads them, and so are the lists that the page
 -- is marked with.

@@ -7,14 +7,17 @@ ghost use Rattle.css_sheet.specs.SheetLayers.{layer_count};
 ghost use Rattle.css_cascade.specs.Layers.{most_layers};
 ghost use Rattle.css_selectors.specs.MarkedLists.{list_of};
 ghost use Rattle.css_styles.specs.NumberedRules.{numbered_sheets};
+ghost use Rattle.css_styles.specs.StyleViews.{AreAnswered, IsMarkedInHtml};
+ghost use Rattle.css_tree.specs.Marks.{AreMarked};
 ghost use Rattle.css_styles.specs.internal.Numbered.{AllStated, AreStated};
 
 use crate::contest::Numbered;
 use crate::numbered_rules::number_rules;
 use crate::properties::Properties;
 use crate::stated::read_stated;
-use css_selectors::{MarkedList, Numbering};
+use css_selectors::{MarkedList, Numbering, Selector};
 use css_sheet::{Sheet, SheetError, SheetRule, SheetRules, read_sheets};
+use css_tree::{NumberedTree, TreeWalk};
 use std::alloc::{AllocError, Global};
 use std::marker::Model;
 
@@ -54,7 +57,7 @@ impl<'a> Model for StyleRules<'a> {
     ghost use Rattle.css_selector_text.specs.Components.{Simple};
     ghost use Rattle.css_selectors.specs.MarkedLists.{list_of};
     ghost use Rattle.css_sheet.specs.SheetRuleViews.{sheet_rule_of};
-    ghost use Rattle.css_styles.specs.StyleViews.{StyleRulesText};
+    ghost use Rattle.css_styles.specs.StyleViews.{AreAnswered, StyleRulesText};
     ghost use Rattle.css_styles.specs.internal.Numbered.{AllStated};
 
     ghost Value = { StyleRulesText };
@@ -68,7 +71,8 @@ impl<'a> Model for StyleRules<'a> {
       properties = r.properties;
     } };
 
-    ghost invariant = { λ r. AllStated r.properties (map sheet_rule_of r.rules.items) r.stated.items };
+    ghost invariant = { λ r. AllStated r.properties (map sheet_rule_of r.rules.items) r.stated.items
+        × AreAnswered (map sheet_rule_of r.rules.items) (map list_of r.lists.items) };
 }
 
 impl<'a> StyleRules<'a> {
@@ -140,6 +144,45 @@ impl<'a> StyleRules<'a> {
         ensures { map list_of result.now ≡ self.now.lists }
     {
         &self.lists
+    }
+
+    /// Returns how many lists there are, and says that the rules ask no others.
+    fn list_count(&self) -> usize
+        ensures { AreAnswered self.now.rules self.now.lists }
+    {
+        self.lists.len()
+    }
+
+    /// Returns a walk with an index of the rules over a page that is marked with [`lists`](StyleRules::lists). Fails only
+    /// if an allocation fails.
+    pub fn walk<'s, 'p, 't>(
+        &'s self,
+        alloc: Global,
+        page: &'s NumberedTree<'p, 't>,
+    ) -> Result<TreeWalk<'s, 'a, 'p, 't>, AllocError>
+        requires { AreMarked self.now.lists page.now }
+        ensures page { IfOk result (λ walk. walk.page ≡ page.now) }
+        ensures selectors { IfOk result (λ walk. walk.walk.selectors
+            ≡ map (λ rule. rule.selector) self.now.rules) }
+    {
+        let _count = self.list_count();
+        TreeWalk::new(alloc, self.as_slice(), page)
+    }
+
+    /// Returns a walk over a page of an HTML document with an index of these selectors, which are those of the rules as
+    /// the document reads them. So are the lists that the page is marked with. Fails only if an allocation fails.
+    pub fn walk_in_html<'s, 'w, 'p, 't>(
+        &self,
+        alloc: Global,
+        selectors: &'s [Selector<'w>],
+        page: &'s NumberedTree<'p, 't>,
+    ) -> Result<TreeWalk<'s, 'w, 'p, 't>, AllocError>
+        requires { IsMarkedInHtml self.now selectors.now page.now }
+        ensures page { IfOk result (λ walk. walk.page ≡ page.now) }
+        ensures selectors { IfOk result (λ walk. walk.walk.selectors ≡ selectors.now) }
+    {
+        let _count = self.list_count();
+        TreeWalk::new(alloc, selectors, page)
     }
 
     /// Returns the declarations of the rule at an index.

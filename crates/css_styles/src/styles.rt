@@ -6,7 +6,6 @@ ghost use Rattle.css_index.specs.Tested.{AreTried};
 ghost use Rattle.css_tree.specs.Marks.{AreMarked};
 ghost use Rattle.css_tree.specs.Pages.{page_document};
 ghost use Rattle.css_tree.specs.Reports.{reported_of};
-ghost use Rattle.css_tree.specs.Walks.{IsOpenAt};
 ghost use Rattle.css_styles.specs.Contenders.{contenders};
 ghost use Rattle.css_styles.specs.StyleViews.{IsMarkedInHtml, StylesText, names_of, own_of, winner_of};
 ghost use Rattle.css_styles.specs.Winners.{AreWinners, winners};
@@ -32,7 +31,7 @@ pub struct Styles<'s, 'a, 'w, 'p, 't> {
     /// The page.
     page: &'s NumberedTree<'p, 't>,
     /// The walk with their selectors.
-    walk: TreeWalk<'s, 'w>,
+    walk: TreeWalk<'s, 'w, 'p, 't>,
     /// The indices of the rules that match an element. This list is reused.
     matching: Vec<usize>,
     /// Finds what wins by these rules.
@@ -44,7 +43,6 @@ impl<'s, 'a, 'w, 'p, 't> Model for Styles<'s, 'a, 'w, 'p, 't> {
     ghost use Rattle.std.specs.Coded.{Coded, codes};
     ghost use Rattle.css_selector_text.specs.Codes.{condition_code};
     ghost use Rattle.css_selector_text.specs.Components.{Simple};
-    ghost use Rattle.css_tree.specs.Walks.{IsOpenAt};
     ghost use Rattle.css_styles.specs.StyleViews.{StylesText};
 
     ghost Value = { StylesText };
@@ -55,7 +53,7 @@ impl<'s, 'a, 'w, 'p, 't> Model for Styles<'s, 'a, 'w, 'p, 't> {
     ghost view = { λ s. record { rules = s.rules.now.rules; page = s.page.now; walk = s.walk.walk } };
 
     ghost invariant = { λ s. (length s.walk.walk.selectors ≡ length s.rules.now.rules)
-        × IsOpenAt s.page.now s.walk.walk s.walk.place × (s.finder ≡ s.rules.now.rules) };
+        × (s.walk.page ≡ s.page.now) × (s.finder ≡ s.rules.now.rules) };
 }
 
 impl<'s, 'a, 'w, 'p, 't> Styles<'s, 'a, 'w, 'p, 't> {
@@ -64,10 +62,10 @@ impl<'s, 'a, 'w, 'p, 't> Styles<'s, 'a, 'w, 'p, 't> {
         alloc: Global,
         rules: &'s StyleRules<'a>,
         page: &'s NumberedTree<'p, 't>,
-        walk: TreeWalk<'s, 'w>,
+        walk: TreeWalk<'s, 'w, 'p, 't>,
     ) -> Result<Styles<'s, 'a, 'w, 'p, 't>, AllocError>
         requires selectors { length walk.walk.selectors ≡ length rules.now.rules }
-        requires opened { IsOpenAt page.now walk.walk walk.place }
+        requires page { walk.page ≡ page.now }
         ensures { IfOk result (λ styles. styles
             ≡ record { rules = rules.now.rules; page = page.now; walk = walk.entry.walk }) }
     {
@@ -93,7 +91,7 @@ impl<'s, 'a, 'w, 'p, 't> Styles<'s, 'a, 'w, 'p, 't> {
         ensures selectors { IfOk result (λ styles. styles.walk.selectors
             ≡ map (λ rule. rule.selector) rules.now.rules) }
     {
-        let walk = TreeWalk::new(alloc, rules.as_slice())?;
+        let walk = rules.walk(alloc, page)?;
         Styles::with_walk(alloc, rules, page, walk)
     }
 
@@ -111,7 +109,7 @@ impl<'s, 'a, 'w, 'p, 't> Styles<'s, 'a, 'w, 'p, 't> {
         ensures page { IfOk result (λ styles. styles.page ≡ page.now) }
         ensures selectors { IfOk result (λ styles. styles.walk.selectors ≡ selectors.now) }
     {
-        let walk = TreeWalk::new(alloc, selectors)?;
+        let walk = rules.walk_in_html(alloc, selectors, page)?;
         Styles::with_walk(alloc, rules, page, walk)
     }
 
@@ -173,9 +171,7 @@ impl<'s, 'a, 'w, 'p, 't> Styles<'s, 'a, 'w, 'p, 't> {
         ensures err { OnErr result (found.new.items ≡ []) }
     {
         found.clear();
-        let page = self.page;
-        self.walk
-            .matching(page, element, &mut self.matching, tests)?;
+        self.walk.matching(element, &mut self.matching, tests)?;
         self.finder.winners(&self.matching, own, found)
     }
 
@@ -209,9 +205,7 @@ impl<'s, 'a, 'w, 'p, 't> Styles<'s, 'a, 'w, 'p, 't> {
         ensures err { OnErr result (found.new.items ≡ []) }
     {
         found.clear();
-        let page = self.page;
-        self.walk
-            .matching(page, element, &mut self.matching, tests)?;
+        self.walk.matching(element, &mut self.matching, tests)?;
         self.finder.winners_named(&self.matching, own, asked, found)
     }
 }

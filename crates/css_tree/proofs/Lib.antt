@@ -1,4 +1,5 @@
 mod AmpersandLemmas
+pub mod AnsweredLemmas
 mod AskedLemmas
 mod ChainLemmas
 mod Counting

@@ -6,13 +6,13 @@ use Rattle.css_index.specs.Walks.{Walk, IsOpenTo}
 use Rattle.css_tree.specs.Pages.{Page, page_document}
 use Rattle.css_tree.specs.Reports.{reported_of}
 
--- what contracts see of a walk over a page: a walk of selectors, and the index of the element that was
--- opened last, if one is open
+-- what contracts see of a walk over a page: the page, and a walk of selectors
 pub record PageWalk : Type 0 where
+  pub page : Page
   pub walk : Walk
-  pub place : Option ℕ
 
--- the open elements are the element at the place and its ancestors
+-- The open elements are the element at the place, which is the index of the one that was opened last if one is open,
+-- and its ancestors.
 pub record IsOpenAt (page : Page) (walk : Walk) (place : Option ℕ) : Type 0 where
   pub within : IfSome place (λ index. index < length page.rows)
   pub opened : IsOpenTo {Node = Page × ℕ} {Self = Page × ℕ} page_document (λ node. node) reported_of

@@ -10,7 +10,8 @@ ghost use Rattle.css_tree.specs.Steps.{step as step_back, is_repeated as is_repe
 
 use crate::NumberedTree;
 use crate::numbered_tree::no_marks;
-use css_selectors::{Combinator, Complex, Part, Tests, meets};
+use css_selectors::on_marked::meets;
+use css_selectors::{Combinator, Complex, Part, Tests};
 use std::alloc::{AllocError, Global};
 
 /// Whether more steps than one relate elements by the combinator, too.

@@ -10,7 +10,8 @@ ghost use Rattle.css_tree.specs.declared.marking.MarkingError.TheVariants.{TooMa
 use crate::nth_marks::End;
 use crate::numbered_tree::no_marks;
 use crate::{NumberedNode, NumberedTree};
-use css_selectors::{ListTest, MarkedList, Matching, Selector, Tests};
+use css_selectors::on_marked::matches_counted;
+use css_selectors::{ListTest, MarkedList, Selector, Tests};
 use std::alloc::{AllocError, Global};
 use std::mem;
 
@@ -28,7 +29,7 @@ fn is_matched(list: &[Selector<'_>], node: &NumberedNode<'_, '_, '_>) -> bool
     ensures { IsTrue result ↔ Any (λ s. Matches page_document s node.now) list.now }
 {
     for selector in list {
-        if selector.matches_counted(node, &mut Tests::new()) {
+        if matches_counted(selector, node, &mut Tests::new()) {
             return true;
         }
     }

@@ -13,7 +13,8 @@ ghost use Rattle.css_tree.specs.Visits.{visited as visited_after, is_numbered_at
 
 use crate::NumberedTree;
 use crate::numbered_tree::no_marks;
-use css_selectors::{Complex, Progression, Tests, matches_any};
+use css_selectors::on_marked::matches_any;
+use css_selectors::{Complex, Progression, Tests};
 use std::alloc::{AllocError, Global};
 
 /// From which end siblings are numbered.

@@ -3,7 +3,8 @@ ghost use Rattle.std.specs.Prelude.{◌≡◌, ◌<◌, ℕ, List, [], IfOk, OnO
 ghost use Rattle.std.specs.Option.{option_eq};
 ghost use Rattle.css_matching.specs.ListTrees.{spot};
 ghost use Rattle.css_index.specs.Found.{AreMatches};
-ghost use Rattle.css_tree.specs.Pages.{Page, page_document, parent_index};
+ghost use Rattle.css_tree.specs.Answered.{IsMarkedFor};
+ghost use Rattle.css_tree.specs.Pages.{page_document, parent_index};
 ghost use Rattle.css_index.specs.Tested.{AreTried};
 ghost use Rattle.css_tree.specs.Reports.{reported_of};
 ghost use Rattle.css_tree.specs.Walks.{IsOpenAt};
@@ -84,83 +85,98 @@ impl<'s, 'a> Opened<'s, 'a> {
 }
 
 /// A walk over the elements of a page: the selectors that match each, found by the elements that are
-/// open, which are its ancestors.
+/// open, which are its ancestors. The page is marked with all lists that the selectors ask by numbers
+/// ([`NumberedTree::mark`]), and while the walk lives it does not change.
 ///
 /// Elements may be asked in any order. Where each comes after the last one in the order of the document,
 /// it opens each element at most once, and only those with children.
 ///
 /// ```text
-/// let mut walk = TreeWalk::new(alloc, rules)?;
+/// page.mark(alloc, rules.lists(), most)?;
+/// let mut walk = TreeWalk::new(alloc, rules.as_slice(), &page)?;
 /// for element in 0..page.len() {
-///     walk.matching(&page, element, &mut indices, &mut Tests::new())?;
+///     walk.matching(element, &mut indices, &mut Tests::new())?;
 /// }
 /// ```
 #[derive(Drop)]
-pub struct TreeWalk<'s, 'a> {
+pub struct TreeWalk<'s, 'a, 'p, 't> {
+    /// The page.
+    page: &'s NumberedTree<'p, 't>,
     /// What is open.
     opened: Opened<'s, 'a>,
     /// The indices of elements that are opened next. The list is reused.
     between: Vec<usize>,
 }
 
-impl<'s, 'a> Model for TreeWalk<'s, 'a> {
+impl<'s, 'a, 'p, 't> Model for TreeWalk<'s, 'a, 'p, 't> {
     ghost use Rattle.std.specs.Coded.{Coded, codes};
     ghost use Rattle.css_selector_text.specs.Codes.{condition_code};
     ghost use Rattle.css_selector_text.specs.Components.{Simple};
-    ghost use Rattle.css_tree.specs.Walks.{PageWalk};
+    ghost use Rattle.css_tree.specs.Walks.{IsOpenAt, PageWalk};
 
     ghost Value = { PageWalk };
 
     ghost coded = { let simples : Coded Simple = Prim.hlevel codes in
         Prim.hlevel (codes, condition_code simples) };
 
-    ghost view = { λ w. record { walk = w.opened.walk; place = w.opened.place } };
+    ghost view = { λ w. record { page = w.page.now; walk = w.opened.walk } };
+
+    ghost invariant = { λ w. IsOpenAt w.page.now w.opened.walk w.opened.place };
 }
 
-impl<'s, 'a> TreeWalk<'s, 'a> {
-    /// Returns a walk with an index of the selectors of rules, which it borrows. No element is open. Fails
-    /// only if an allocation fails.
+impl<'s, 'a, 'p, 't> TreeWalk<'s, 'a, 'p, 't> {
+    /// Returns a walk over a page with an index of the selectors of rules. The page answers all of them: each list that
+    /// they ask by a number is one of those that it is marked with. No element is open. Fails only if an allocation
+    /// fails.
     pub fn new<T: HasSelector<'a>>(
         alloc: Global,
         rules: &'s [T],
-    ) -> Result<TreeWalk<'s, 'a>, AllocError>
+        page: &'s NumberedTree<'p, 't>,
+    ) -> Result<TreeWalk<'s, 'a, 'p, 't>, AllocError>
+        requires { IsMarkedFor (map T.selector_in rules.now) page.now }
+        ensures page { IfOk result (λ w. w.page ≡ page.now) }
         ensures selectors { IfOk result (λ w. w.walk.selectors ≡ map T.selector_in rules.now) }
-        ensures opened { IfOk result (λ w. (page : Page) → IsOpenAt page w.walk w.place) }
     {
         Ok(TreeWalk {
+            page,
             opened: Opened {
-                walk: SelectorWalk::new(alloc, rules)?,
+                walk: SelectorWalk::on_marked(alloc, rules)?,
                 place: None,
             },
             between: Vec::new(alloc),
         })
     }
 
+    /// Returns how many elements the page has.
+    pub fn element_count(&self) -> usize
+        ensures { result ≡ length self.now.page.rows }
+    {
+        self.page.len()
+    }
+
     /// Finds the indices of the rules that match the element at an index, in order, and counts the tests:
     /// only a rule is tested of which the element reports a key and open elements report all that it needs
-    /// above the element, and only if it requires more than its keys. A walk is of one page alone. The
-    /// previous items of `indices` are dropped. Fails only if an allocation fails; then no items are left,
-    /// and the walk goes on.
+    /// above the element, and only if it requires more than its keys. The previous items of `indices` are
+    /// dropped. Fails only if an allocation fails; then no items are left, and the walk goes on.
     pub fn matching(
         &mut self,
-        page: &NumberedTree<'_, '_>,
         element: usize,
         indices: &mut Vec<usize>,
         tests: &mut Tests,
     ) -> Result<(), AllocError>
-        requires element { element < length page.now.rows }
-        requires opened { IsOpenAt page.now self.old.walk self.old.place }
-        ensures matches { OnOk result (AreMatches page_document (spot page.now element)
+        requires { element < length self.old.page.rows }
+        ensures matches { OnOk result (AreMatches page_document (spot self.old.page element)
             self.old.walk.selectors indices.new.items) }
         ensures tests { OnOk result ((tried : List ℕ)
-            × AreTried page_document (spot page.now element) (reported_of (spot page.now element))
+            × AreTried page_document (spot self.old.page element) (reported_of (spot self.old.page element))
             self.new.walk tried tests.old tests.new) }
-        ensures opened { IsOpenAt page.now self.new.walk self.new.place }
+        ensures page { self.new.page ≡ self.old.page }
         ensures selectors { self.new.walk.selectors ≡ self.old.walk.selectors }
         ensures err { OnErr result (indices.new.items ≡ []) }
     {
         indices.clear();
         self.between.clear();
+        let page = self.page;
         let parent = page.parent(element);
         let above = find_way(page.tree, self.opened.place, parent, &mut self.between)?;
         self.opened.close_to(page, above);

@@ -1,9 +1,10 @@
 //! Modern selectors: what each call answers.
 
-ghost use Rattle.std.specs.Prelude.{◌≡◌, ◌<◌, ◌^◌, None, Some, Err, MatchResult, length, map, string_bytes};
+ghost use Rattle.std.specs.Prelude.{◌≡◌, ◌<◌, ◌^◌, All, None, Some, Err, MatchResult, length, map, string_bytes};
 ghost use Rattle.std.specs.Str.{IsUtf8};
 ghost use Rattle.css_selectors.specs.MarkedLists.{list_of};
 ghost use Rattle.css_selectors.specs.Numberings.{no_lists, numbered_selectors};
+ghost use Rattle.css_tree.specs.Answered.{SelectorIsAnswered};
 ghost use Rattle.call_answers.specs.Calls.{FailsLonger, FailsWithin, passed_of, passed_tree};
 ghost use Rattle.call_answers.specs.Elements.{attributes_by, named_states};
 ghost use Rattle.call_answers.specs.internal.Attributes.{placed_attribute_of};
@@ -52,7 +53,8 @@ fn marked_lines(
     page: NumberedTree<'_, '_>,
     most: usize,
 ) -> Result<String, CallError>
-    requires { length selectors.now < 2 ^ 63 }
+    requires few { length selectors.now < 2 ^ 63 }
+    requires answered { All (SelectorIsAnswered (length lists.now)) selectors.now }
     ensures { let are = AreOnMarked most kind (map list_of lists.now) page.entry
         (AreLinesOn most content kind selectors.now) in
         MatchResult result (λ text. are (Some (string_bytes text))) (FailsLonger (are None)) }

@@ -40,7 +40,7 @@ fn range_numbers<'a>(
         Content::Won(asked) => {
             range_winners(alloc, rules, kind, page, own, asked.as_ref(), range, most)
         }
-        Content::Matched => range_matches(alloc, rules.as_slice(), kind, page, range, most),
+        Content::Matched => range_matches(alloc, rules, kind, page, range, most),
         Content::Explained(names) => {
             range_explained(alloc, rules, kind, page, own, names, range, most)
         }

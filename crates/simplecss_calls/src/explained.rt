@@ -3,8 +3,9 @@
 ghost use Rattle.std.specs.Prelude.{◌≡◌, ◌<◌, ◌++◌, ◌^◌, ℕ, List, OnOk, MatchResult, None, Some, length, map};
 ghost use Rattle.css_explain.specs.ExplainViews.{explained_of};
 ghost use Rattle.css_sheet.specs.SheetRuleViews.{sheet_rule_of};
-ghost use Rattle.css_tree.specs.Walks.{IsOpenAt};
+ghost use Rattle.css_tree.specs.Marks.{AreMarked};
 ghost use Rattle.call_answers.specs.Calls.{FailsLonger};
+ghost use Rattle.page_calls.specs.MarkedPages.{list_as};
 ghost use Rattle.page_calls.specs.Readings.{selector_as};
 ghost use Rattle.simplecss_calls.specs.ExplainNumbers.{AreExplained, AreExplainedBy, IsExplainedBy};
 ghost use Rattle.simplecss_calls.specs.ExplainNumbers.{criterion_number as criterion_number_of, explained_line, explained_numbers};
@@ -77,24 +78,22 @@ struct ExplainAsked<'w, 't, 'n> {
 fn push_explained<'a>(
     out: &mut Vec<usize>,
     alloc: Global,
-    walk: &mut TreeWalk<'_, '_>,
+    walk: &mut TreeWalk<'_, '_, '_, '_>,
     rules: &[SheetRule<'a>],
-    page: &NumberedTree<'_, '_>,
     element: usize,
     asked: ExplainAsked<'_, 'a, '_>,
     indices: &mut Vec<usize>,
 ) -> Result<(), AllocError>
-    requires element { element < length page.now.rows }
+    requires element { element < length walk.old.page.rows }
     requires few { length rules.now < 2 ^ 63 }
-    requires opened { IsOpenAt page.now walk.old.walk walk.old.place }
     ensures written { OnOk result ((line : List ℕ)
         × IsExplainedBy (names_of_asked asked.entry) (own_of_asked asked.entry) walk.old.walk.selectors
-        (map sheet_rule_of rules.now) page.now element line
+        (map sheet_rule_of rules.now) walk.old.page element line
         × (out.new.items ≡ out.old.items ++ line)) }
-    ensures opened { IsOpenAt page.now walk.new.walk walk.new.place }
+    ensures page { walk.new.page ≡ walk.old.page }
     ensures selectors { walk.new.walk.selectors ≡ walk.old.walk.selectors }
 {
-    walk.matching(page, element, indices, &mut Tests::new())?;
+    walk.matching(element, indices, &mut Tests::new())?;
     let own = own_at(asked.own, element);
     let all = css_explain::explain(alloc, rules, indices, own, asked.names)?;
     push_line(out, rules.len(), &all)
@@ -103,29 +102,29 @@ fn push_explained<'a>(
 /// The same of each element of a range, within a limit.
 fn explained_by<'a>(
     alloc: Global,
-    walk: &mut TreeWalk<'_, '_>,
+    walk: &mut TreeWalk<'_, '_, '_, '_>,
     rules: &[SheetRule<'a>],
-    page: &NumberedTree<'_, '_>,
     asked: ExplainAsked<'_, 'a, '_>,
     range: ElementRange,
     most: usize,
 ) -> Result<Vec<usize>, CallError>
-    requires few { length rules.now < 2 ^ 63 }
-    requires opened { IsOpenAt page.now walk.old.walk walk.old.place }
+    requires { length rules.now < 2 ^ 63 }
     ensures { let are = AreExplainedBy (names_of_asked asked.entry) (own_of_asked asked.entry) most range
-        walk.old.walk.selectors (map sheet_rule_of rules.now) page.now in
+        walk.old.walk.selectors (map sheet_rule_of rules.now) walk.old.page in
         MatchResult result (λ out. are (Some out.items)) (FailsLonger (are None)) }
 {
     let mut indices = Vec::new(alloc);
     let mut out = Vec::new(alloc);
-    let count = range.to.min(page.len()).saturating_sub(range.from);
+    let count = range
+        .to
+        .min(walk.element_count())
+        .saturating_sub(range.from);
     for index in 0..count {
         push_explained(
             &mut out,
             alloc,
             walk,
             rules,
-            page,
             range.from + index,
             asked,
             &mut indices,
@@ -146,6 +145,7 @@ fn explained_by_walk<'a>(
     range: ElementRange,
     most: usize,
 ) -> Result<Vec<usize>, CallError>
+    requires { AreMarked (map (list_as kind) rules.now.lists) page.now }
     ensures { let are = AreExplained (map (λ name. name.now) names.now) (map (λ text. text.now) own.now) most range
         (selector_as kind) rules.now.rules page.now in
         MatchResult result (λ out. are (Some out.items)) (FailsLonger (are None)) }
@@ -154,13 +154,13 @@ fn explained_by_walk<'a>(
     let all = rules.as_slice();
     match kind {
         DocumentKind::AsWritten => {
-            let mut walk = TreeWalk::new(alloc, all)?;
-            explained_by(alloc, &mut walk, all, page, asked, range, most)
+            let mut walk = rules.walk(alloc, page)?;
+            explained_by(alloc, &mut walk, all, asked, range, most)
         }
         DocumentKind::Html(mode) => {
             let selectors = html_rule_selectors(alloc, mode, all)?;
-            let mut walk = TreeWalk::new(alloc, &selectors)?;
-            explained_by(alloc, &mut walk, all, page, asked, range, most)
+            let mut walk = rules.walk_in_html(alloc, &selectors, page)?;
+            explained_by(alloc, &mut walk, all, asked, range, most)
         }
     }
 }
@@ -237,6 +237,7 @@ pub fn range_explained<'a>(
     range: ElementRange,
     most: usize,
 ) -> Result<Vec<usize>, CallError>
+    requires { AreMarked (map (list_as kind) rules.now.lists) page.now }
     ensures { let are = AreExplained (map (λ name. name.now) names.now) (map (λ text. text.now) own.now) most range
         (selector_as kind) rules.now.rules page.now in
         MatchResult result (λ out. are (Some out.items)) (FailsLonger (are None)) }

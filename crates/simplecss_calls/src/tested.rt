@@ -15,9 +15,8 @@ ghost use Rattle.css_tree.specs.declared.html.HtmlMode.TheVariants.{NoQuirks};
 ghost use Rattle.page_calls.specs.Readings.{selector_as};
 ghost use Rattle.simplecss_calls.specs.WinnerNumbers.{selectors_read};
 
-use css_selectors::{
-    Combinator, Condition, Element, Matching as _, Part, Selector, Simple, Tests, meets,
-};
+use css_selectors::on_marked::{matches_counted, meets};
+use css_selectors::{Combinator, Condition, Element, Part, Selector, Simple, Tests};
 use css_sheet::SheetRule;
 use css_tree::html::{HtmlMode, html_selector};
 use css_tree::{NumberedNode, NumberedTree};
@@ -112,7 +111,7 @@ fn is_matched_in_html<E: Element>(
         return Ok(false);
     }
     let read = html_selector(alloc, mode, selector)?;
-    Ok(read.matches_counted(element, &mut Tests::new()))
+    Ok(matches_counted(&read, element, &mut Tests::new()))
 }
 
 /// Whether a selector matches an element, where a document reads selectors in this way.
@@ -126,7 +125,7 @@ fn is_matched<E: Element>(
         ↔ Matches E.document (selector_as kind selector.now) (E.node element.now)) }
 {
     match kind {
-        DocumentKind::AsWritten => Ok(selector.matches_counted(element, &mut Tests::new())),
+        DocumentKind::AsWritten => Ok(matches_counted(selector, element, &mut Tests::new())),
         DocumentKind::Html(mode) => is_matched_in_html(alloc, mode, selector, element),
     }
 }

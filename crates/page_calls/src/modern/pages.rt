@@ -2,7 +2,7 @@
 
 ghost use Rattle.std.specs.Prelude.{◌≡◌, ◌+◌, ◌^◌, ◌<◌, ◌++◌, IfOk, OnOk, MatchResult, List, ℕ, [], None, Some};
 ghost use Rattle.std.specs.Prelude.{length, map, string_bytes};
-ghost use Rattle.css_tree.specs.Walks.{IsOpenAt};
+ghost use Rattle.css_tree.specs.Answered.{IsMarkedFor};
 ghost use Rattle.page_calls.specs.ModernLines.{page_with, IsModernLine, AreModernLines};
 ghost use Rattle.call_answers.specs.Calls.{FailsLonger};
 ghost use Rattle.call_answers.specs.Elements.{attributes_by, named_states as named_states_of};
@@ -87,22 +87,20 @@ pub fn page_of<'p, 't>(
 fn push_line(
     out: &mut String,
     content: LineContent,
-    walk: &mut TreeWalk<'_, '_>,
-    page: &NumberedTree<'_, '_>,
+    walk: &mut TreeWalk<'_, '_, '_, '_>,
     element: usize,
     indices: &mut Vec<usize>,
 ) -> Result<(), AllocError>
-    requires element { element < length page.now.rows }
+    requires element { element < length walk.old.page.rows }
     requires number { element + 1 < 2 ^ 64 }
     requires fits { length walk.old.walk.selectors < 2 ^ 63 }
-    requires opened { IsOpenAt page.now walk.old.walk walk.old.place }
     ensures written { OnOk result ((line : List ℕ)
-        × IsModernLine content walk.old.walk.selectors page.now element line
+        × IsModernLine content walk.old.walk.selectors walk.old.page element line
         × (string_bytes out.new ≡ string_bytes out.old ++ line)) }
-    ensures opened { IsOpenAt page.now walk.new.walk walk.new.place }
+    ensures page { walk.new.page ≡ walk.old.page }
     ensures selectors { walk.new.walk.selectors ≡ walk.old.walk.selectors }
 {
-    walk.matching(page, element, indices, &mut Tests::new())?;
+    walk.matching(element, indices, &mut Tests::new())?;
     push_indices(out, content, element + 1, indices.as_slice())
 }
 
@@ -110,21 +108,19 @@ fn push_line(
 fn lines_by(
     alloc: Global,
     content: LineContent,
-    walk: &mut TreeWalk<'_, '_>,
-    page: &NumberedTree<'_, '_>,
+    walk: &mut TreeWalk<'_, '_, '_, '_>,
     most: usize,
 ) -> Result<String, CallError>
-    requires fits { length walk.old.walk.selectors < 2 ^ 63 }
-    requires opened { IsOpenAt page.now walk.old.walk walk.old.place }
+    requires { length walk.old.walk.selectors < 2 ^ 63 }
     ensures { MatchResult result
-        (λ text. AreModernLines most content walk.old.walk.selectors page.now
+        (λ text. AreModernLines most content walk.old.walk.selectors walk.old.page
         (Some (string_bytes text)))
-        (FailsLonger (AreModernLines most content walk.old.walk.selectors page.now None)) }
+        (FailsLonger (AreModernLines most content walk.old.walk.selectors walk.old.page None)) }
 {
     let mut indices = Vec::new(alloc);
     let mut text = String::new(alloc);
-    for element in 0..page.len() {
-        push_line(&mut text, content, walk, page, element, &mut indices)?;
+    for element in 0..walk.element_count() {
+        push_line(&mut text, content, walk, element, &mut indices)?;
         check_length(&text, most)?;
     }
     Ok(text)
@@ -138,13 +134,14 @@ fn lines_as_written(
     page: &NumberedTree<'_, '_>,
     most: usize,
 ) -> Result<String, CallError>
-    requires { length selectors.now < 2 ^ 63 }
+    requires few { length selectors.now < 2 ^ 63 }
+    requires marked { IsMarkedFor selectors.now page.now }
     ensures { MatchResult result
         (λ text. AreModernLines most content selectors.now page.now (Some (string_bytes text)))
         (FailsLonger (AreModernLines most content selectors.now page.now None)) }
 {
-    let mut walk = TreeWalk::new(alloc, selectors)?;
-    lines_by(alloc, content, &mut walk, page, most)
+    let mut walk = TreeWalk::new(alloc, selectors, page)?;
+    lines_by(alloc, content, &mut walk, most)
 }
 
 /// The lines of the elements of a page, by which selectors match each as a document reads them.
@@ -156,7 +153,8 @@ pub fn lines(
     page: &NumberedTree<'_, '_>,
     most: usize,
 ) -> Result<String, CallError>
-    requires { length selectors.now < 2 ^ 63 }
+    requires few { length selectors.now < 2 ^ 63 }
+    requires marked { IsMarkedFor (map (selector_as kind) selectors.now) page.now }
     ensures { MatchResult result (λ text. AreModernLines most content
         (map (selector_as kind) selectors.now) page.now (Some (string_bytes text)))
         (FailsLonger (AreModernLines most content (map (selector_as kind) selectors.now)

@@ -1,24 +1,26 @@
 //! The numbers of the elements of a range that selectors match.
 
-ghost use Rattle.std.specs.Prelude.{◌≡◌, ◌+◌, ◌^◌, ◌<◌, ◌↔◌, ◌++◌, [], ℕ, IsTrue, List, OnOk, MatchResult, None, Some, length, map};
+ghost use Rattle.std.specs.Prelude.{◌≡◌, ◌+◌, ◌^◌, ◌<◌, ◌↔◌, ◌++◌, [], ℕ, All, IsTrue, List, OnOk, MatchResult, None, Some, length, map};
 ghost use Rattle.css_selector_text.specs.NameViews.{names_of};
 ghost use Rattle.css_selectors.specs.MarkedLists.{list_of};
 ghost use Rattle.css_selectors.specs.Numberings.{no_lists, numbered_selectors};
 ghost use Rattle.css_index.specs.Found.{MatchesAt};
+ghost use Rattle.css_tree.specs.Answered.{IsMarkedFor, SelectorIsAnswered};
 ghost use Rattle.css_tree.specs.Marks.{with_marks};
 ghost use Rattle.css_tree.specs.Pages.{page_document};
-ghost use Rattle.css_tree.specs.Walks.{IsOpenAt};
 ghost use Rattle.call_answers.specs.Calls.{FailsLonger};
 ghost use Rattle.call_answers.specs.Outcomes.{numbers_outcome};
 ghost use Rattle.page_calls.specs.MarkedPages.{AreOnMarked};
 ghost use Rattle.page_calls.specs.Ranges.{AreNumbered, AreNumbersIn, AreNumbersOn, IsNumberAt, IsRangeSelected};
+ghost use Rattle.page_calls.specs.Readings.{selector_as};
 
 use super::document_kind::DocumentKind;
 use super::lists::read_list;
 use crate::marks::mark;
 use call_answers::answer::{CallError, check_count};
 use call_answers::texts::text_of;
-use css_selectors::{MarkedList, Matching as _, Names, Numbering, Selector, Tests};
+use css_selectors::on_marked::matches_counted;
+use css_selectors::{MarkedList, Names, Numbering, Selector, Tests};
 use css_tree::html::html_selectors;
 use css_tree::{NumberedNode, NumberedTree, TreeWalk};
 use std::alloc::{AllocError, Global};
@@ -39,21 +41,19 @@ pub struct ElementRange {
 /// `indices` is dropped.
 fn push_number(
     out: &mut Vec<usize>,
-    walk: &mut TreeWalk<'_, '_>,
-    page: &NumberedTree<'_, '_>,
+    walk: &mut TreeWalk<'_, '_, '_, '_>,
     element: usize,
     indices: &mut Vec<usize>,
 ) -> Result<(), AllocError>
-    requires element { element < length page.now.rows }
+    requires element { element < length walk.old.page.rows }
     requires number { element + 1 < 2 ^ 64 }
-    requires opened { IsOpenAt page.now walk.old.walk walk.old.place }
     ensures written { OnOk result ((numbers : List ℕ)
-        × IsNumberAt walk.old.walk.selectors page.now element numbers
+        × IsNumberAt walk.old.walk.selectors walk.old.page element numbers
         × (out.new.items ≡ out.old.items ++ numbers)) }
-    ensures opened { IsOpenAt page.now walk.new.walk walk.new.place }
+    ensures page { walk.new.page ≡ walk.old.page }
     ensures selectors { walk.new.walk.selectors ≡ walk.old.walk.selectors }
 {
-    walk.matching(page, element, indices, &mut Tests::new())?;
+    walk.matching(element, indices, &mut Tests::new())?;
     if !indices.is_empty() {
         out.push(element + 1)?;
     }
@@ -63,20 +63,21 @@ fn push_number(
 /// The numbers of the elements of a range, by a walk.
 fn numbers_by(
     alloc: Global,
-    walk: &mut TreeWalk<'_, '_>,
-    page: &NumberedTree<'_, '_>,
+    walk: &mut TreeWalk<'_, '_, '_, '_>,
     range: ElementRange,
     most: usize,
 ) -> Result<Vec<usize>, CallError>
-    requires { IsOpenAt page.now walk.old.walk walk.old.place }
-    ensures { let are = AreNumbersIn most range walk.old.walk.selectors page.now in
+    ensures { let are = AreNumbersIn most range walk.old.walk.selectors walk.old.page in
         MatchResult result (λ numbers. are (Some numbers.items)) (FailsLonger (are None)) }
 {
     let mut indices = Vec::new(alloc);
     let mut numbers = Vec::new(alloc);
-    let count = range.to.min(page.len()).saturating_sub(range.from);
+    let count = range
+        .to
+        .min(walk.element_count())
+        .saturating_sub(range.from);
     for index in 0..count {
-        push_number(&mut numbers, walk, page, range.from + index, &mut indices)?;
+        push_number(&mut numbers, walk, range.from + index, &mut indices)?;
         check_count(&numbers, most)?;
     }
     Ok(numbers)
@@ -87,7 +88,7 @@ fn is_matched(selectors: &[Selector<'_>], node: &NumberedNode<'_, '_, '_>) -> bo
     ensures { IsTrue result ↔ ((index : ℕ) × MatchesAt page_document node.now selectors.now index) }
 {
     for selector in selectors {
-        if selector.matches_counted(node, &mut Tests::new()) {
+        if matches_counted(selector, node, &mut Tests::new()) {
             return true;
         }
     }
@@ -142,14 +143,15 @@ fn numbers_as_written(
     range: ElementRange,
     most: usize,
 ) -> Result<Vec<usize>, CallError>
+    requires { IsMarkedFor selectors.now page.now }
     ensures { let are = AreNumbersIn most range selectors.now page.now in
         MatchResult result (λ numbers. are (Some numbers.items)) (FailsLonger (are None)) }
 {
     if selectors.len() <= FEW {
         return tested_numbers(alloc, selectors, page, range, most);
     }
-    let mut walk = TreeWalk::new(alloc, selectors)?;
-    numbers_by(alloc, &mut walk, page, range, most)
+    let mut walk = TreeWalk::new(alloc, selectors, page)?;
+    numbers_by(alloc, &mut walk, range, most)
 }
 
 /// The numbers of the elements of a range that selectors match as a document reads them.
@@ -161,6 +163,7 @@ fn range_numbers(
     range: ElementRange,
     most: usize,
 ) -> Result<Vec<usize>, CallError>
+    requires { IsMarkedFor (map (selector_as kind) selectors.now) page.now }
     ensures { let are = AreNumbersOn most range kind selectors.now page.now in
         MatchResult result (λ numbers. are (Some numbers.items)) (FailsLonger (are None)) }
 {
@@ -184,6 +187,7 @@ fn marked_numbers(
     range: ElementRange,
     most: usize,
 ) -> Result<Vec<usize>, CallError>
+    requires { All (SelectorIsAnswered (length lists.now)) selectors.now }
     ensures answer { let are = AreOnMarked most kind (map list_of lists.now) page.old
         (AreNumbersOn most range kind selectors.now) in
         MatchResult result (λ numbers. are (Some numbers.items)) (FailsLonger (are None)) }

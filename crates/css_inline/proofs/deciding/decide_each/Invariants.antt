@@ -1,5 +1,6 @@
-use Rattle.css_tree.specs.Walks.{IsOpenAt}
+use Rattle.std.proofs.Common.{◌≡◌}
 use Rattle.css_inline.proofs.deciding.decide_each.Given as goal
 
+-- the page stays
 abbrev pub invariant-loop-index : goal.invariant-loop-index
-invariant-loop-index l = IsOpenAt l.page l.walk.walk l.walk.place
+invariant-loop-index l = l.walk.page ≡ l.fn.walk.page

@@ -42,10 +42,7 @@ returns-in-Matched c =
     (λ out. AreNumbers (content_of content) own c.args.most c.args.range read c.args.rules.now.rules page (Some out.items))
     (FailsLonger (AreNumbers (content_of content) own c.args.most c.args.range read c.args.rules.now.rules page None)))
     (sym c.in-Matched.is)
-    (subst (λ (rules : List SheetRuleText). MatchResult c.range_matches.result
-    (λ out. AreMatched c.args.most c.args.range read rules page (Some out.items))
-    (FailsLonger (AreMatched c.args.most c.args.range read rules page None)))
-    c.as_slice.ensures c.range_matches.ensures)
+    c.range_matches.ensures
 
 pub returns-in-Explained : goal.returns-in-Explained
 returns-in-Explained c =

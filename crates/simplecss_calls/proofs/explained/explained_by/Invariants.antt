@@ -1,5 +1,4 @@
 use Rattle.std.proofs.Common.{◌≡◌, ◌+◌, map}
-use Rattle.css_tree.specs.Walks.{IsOpenAt}
 use Rattle.call_answers.proofs.PageLines.{LinesWithin}
 use Rattle.css_sheet.specs.SheetRuleViews.{sheet_rule_of}
 use Rattle.simplecss_calls.specs.ExplainNumbers.{IsExplainedBy}
@@ -10,8 +9,8 @@ use Rattle.simplecss_calls.proofs.explained.explained_by.Given as goal
 abbrev pub invariant-loop-index : goal.invariant-loop-index
 invariant-loop-index l = record {
   lines : LinesWithin l.most (λ index. IsExplainedBy (names_of l.asked) (own_of l.asked) l.fn.walk.walk.selectors
-      (map sheet_rule_of l.rules) l.page (l.range.from + index)) l.index
+      (map sheet_rule_of l.rules) l.fn.walk.page (l.range.from + index)) l.index
       l.out.items;
-  opened : IsOpenAt l.page l.walk.walk l.walk.place;
+  page : l.walk.page ≡ l.fn.walk.page;
   selectors : l.walk.walk.selectors ≡ l.fn.walk.walk.selectors;
 }

@@ -7,19 +7,22 @@ use Rattle.simplecss_calls.proofs.matches.matched_by.Goals as goal
 
 pub returns-in_err-push_matched : goal.returns-in_err-push_matched
 returns-in_err-push_matched c =
-    let are = AreMatchedBy c.args.most c.args.range c.args.walk.now.walk.selectors c.args.page.now in
+    let are = AreMatchedBy c.args.most c.args.range c.args.walk.now.walk.selectors c.args.walk.now.page in
     memory_due (λ out. are (Some out.items)) (are None) c.from_residual.result
     c.from_residual.ensures.1
 
 -- the numbers up to this element are too many
 pub returns-in_err-check_count : goal.returns-in_err-check_count
 returns-in_err-check_count c =
-    let page = c.args.page.now in
+    let page = c.args.walk.now.page in
     let selectors = c.args.walk.now.walk.selectors in
     let are = AreMatchedBy c.args.most c.args.range selectors page in
-    let added = subst (λ ss. (line : List ℕ) × IsMatchedBy ss page (c.args.range.from + c.loop-index.index) line
+    let added = subst (λ p. (line : List ℕ) × IsMatchedBy c.args.walk.now.walk.selectors p (c.args.range.from + c.loop-index.index) line
     × (c.push_matched.new.out.items ≡ c.loop-index.out.items ++ line))
-    c.loop-index.invariant.selectors c.in_ok-push_matched.ensures.written in
+    c.loop-index.invariant.page
+    (subst (λ ss. (line : List ℕ) × IsMatchedBy ss c.loop-index.walk.page (c.args.range.from + c.loop-index.index) line
+    × (c.push_matched.new.out.items ≡ c.loop-index.out.items ++ line))
+    c.loop-index.invariant.selectors c.in_ok-push_matched.ensures.written) in
     longer_due (λ out. are (Some out.items)) c.args.most (λ index. IsMatchedBy selectors page (c.args.range.from + index))
     (c.loop-index.index + 1) (count_in c.args.range (length page.rows)) c.push_matched.new.out.items
     (lines_more c.loop-index.invariant.lines.so_far added.0 c.push_matched.new.out.items added.1
@@ -30,23 +33,27 @@ returns-in_err-check_count c =
 -- the numbers of one more element
 pub loop-index-preserved : goal.loop-index-preserved
 loop-index-preserved c =
-    let added = subst (λ ss. (line : List ℕ)
-    × IsMatchedBy ss c.args.page.now (c.args.range.from + c.loop-index.index) line
+    let added = subst (λ p. (line : List ℕ)
+    × IsMatchedBy c.args.walk.now.walk.selectors p (c.args.range.from + c.loop-index.index) line
     × (c.push_matched.new.out.items ≡ c.loop-index.out.items ++ line))
-    c.loop-index.invariant.selectors c.in_ok-push_matched.ensures.written in
+    c.loop-index.invariant.page
+    (subst (λ ss. (line : List ℕ)
+    × IsMatchedBy ss c.loop-index.walk.page (c.args.range.from + c.loop-index.index) line
+    × (c.push_matched.new.out.items ≡ c.loop-index.out.items ++ line))
+    c.loop-index.invariant.selectors c.in_ok-push_matched.ensures.written) in
     record {
       lines = record {
         so_far = lines_more c.loop-index.invariant.lines.so_far added.0
             c.push_matched.new.out.items added.1 added.2;
         short = c.in_ok-check_count.ensures;
       };
-      opened = c.in_ok-push_matched.ensures.opened;
+      page = c.in_ok-push_matched.ensures.page ∙ c.loop-index.invariant.page;
       selectors = c.in_ok-push_matched.ensures.selectors ∙ c.loop-index.invariant.selectors;
     }
 
 pub returns : goal.returns
 returns c =
-    let page = c.args.page.now in
+    let page = c.args.walk.now.page in
     lines_done c.args.most (λ index. IsMatchedBy c.args.walk.now.walk.selectors page (c.args.range.from + index))
     c.loop-index.index (count_in c.args.range (length page.rows)) c.loop-index.out.items
     c.loop-index.invariant.lines (omega arith)

@@ -1,5 +1,5 @@
 use Rattle.std.proofs.Common.{◌∙◌, length, ap}
-use Rattle.std.proofs.lemmas.List.{length-map, map-id}
+use Rattle.std.proofs.lemmas.List.{length-map}
 use Rattle.std.proofs.lemmas.Result.{IfOk-weaker}
 use Rattle.css_sheet.specs.SheetOrder.{SheetRuleText}
 use Rattle.css_tree.specs.Html.{html_selector}
@@ -7,11 +7,8 @@ use Rattle.css_styles.proofs.styles.Styles.in_html.Goals as goal
 
 pub with_walk-requires-clause-selectors : goal.with_walk-requires-clause-selectors
 with_walk-requires-clause-selectors c =
-    ap length (c.in_ok-walk.ensures.selectors ∙ map-id c.args.selectors.now ∙ c.requires.marked.1)
+    ap length (c.in_ok-walk.ensures.selectors ∙ c.requires.marked.1)
     ∙ length-map c.args.rules.now.rules (λ (rule : SheetRuleText). html_selector c.requires.marked.0 rule.selector)
-
-pub with_walk-requires-clause-opened : goal.with_walk-requires-clause-opened
-with_walk-requires-clause-opened c = c.in_ok-walk.ensures.opened c.args.page.now
 
 pub returns-clause-rules : goal.returns-clause-rules
 returns-clause-rules c =
@@ -24,5 +21,4 @@ returns-clause-page c =
 pub returns-clause-selectors : goal.returns-clause-selectors
 returns-clause-selectors c =
     IfOk-weaker c.with_walk.result _ _
-    (λ styles is. ap (λ v. v.walk.selectors) is ∙ c.in_ok-walk.ensures.selectors ∙ map-id c.args.selectors.now)
-    c.with_walk.ensures
+    (λ styles is. ap (λ v. v.walk.selectors) is ∙ c.in_ok-walk.ensures.selectors) c.with_walk.ensures

@@ -1,10 +1,13 @@
-use Rattle.std.proofs.Common.{◌∙◌, ap}
+use Rattle.std.proofs.Common.{◌∙◌, length, ap}
+use Rattle.std.proofs.lemmas.List.{length-map}
 use Rattle.std.proofs.lemmas.Result.{IfOk-weaker}
-use Rattle.css_styles.proofs.ReadLemmas.{selectors-of}
+use Rattle.css_sheet.specs.SheetOrder.{SheetRuleText}
 use Rattle.css_styles.proofs.styles.Styles.new.Goals as goal
 
-pub with_walk-requires-clause-opened : goal.with_walk-requires-clause-opened
-with_walk-requires-clause-opened c = c.in_ok-walk.ensures.opened c.args.page.now
+pub with_walk-requires-clause-selectors : goal.with_walk-requires-clause-selectors
+with_walk-requires-clause-selectors c =
+    ap length c.in_ok-walk.ensures.selectors
+    ∙ length-map c.args.rules.now.rules (λ (rule : SheetRuleText). rule.selector)
 
 pub returns-clause-rules : goal.returns-clause-rules
 returns-clause-rules c =
@@ -17,5 +20,4 @@ returns-clause-page c =
 pub returns-clause-selectors : goal.returns-clause-selectors
 returns-clause-selectors c =
     IfOk-weaker c.with_walk.result _ _
-    (λ styles is. ap (λ v. v.walk.selectors) is ∙ c.in_ok-walk.ensures.selectors
-    ∙ selectors-of c.as_slice.result.now c.args.rules.now.rules c.as_slice.ensures) c.with_walk.ensures
+    (λ styles is. ap (λ v. v.walk.selectors) is ∙ c.in_ok-walk.ensures.selectors) c.with_walk.ensures

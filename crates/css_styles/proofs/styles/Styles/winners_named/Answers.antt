@@ -4,7 +4,7 @@ use Rattle.std.specs.List.{All}
 use Rattle.css_matching.specs.ListTrees.{spot}
 use Rattle.css_index.specs.Found.{AreMatches}
 use Rattle.css_index.specs.Tested.{AreTried}
-use Rattle.css_tree.specs.Pages.{page_document}
+use Rattle.css_tree.specs.Pages.{Page, page_document}
 use Rattle.css_tree.specs.Reports.{reported_of}
 use Rattle.css_styles.specs.Contenders.{contenders}
 use Rattle.css_styles.specs.StyleViews.{StylesText, names_of, own_of, winner_of}
@@ -13,8 +13,10 @@ use Rattle.css_styles.proofs.GatherLemmas.{then-ok}
 use Rattle.css_styles.proofs.StyleLemmas.{found-within}
 use Rattle.css_styles.proofs.styles.Styles.winners_named.Goals as goal
 
-pub matching-requires-clause-opened : goal.matching-requires-clause-opened
-matching-requires-clause-opened c = c.self.invariant.1
+pub matching-requires : goal.matching-requires
+matching-requires c =
+    subst (λ (p : Page). c.args.element < length p.rows) (sym c.self.invariant.1)
+    (subst (λ (v : StylesText). c.args.element < length v.page.rows) (sym c.self.view_is) c.requires)
 
 pub winners_named-requires : goal.winners_named-requires
 winners_named-requires c =
@@ -30,7 +32,8 @@ returns-clause-winners c =
     let indices = c.deref.result.now in
     let found =
     subst (AreMatches page_document node c.self.inside.walk.walk.selectors) (sym c.deref.ensures.value)
-    c.in_ok-matching.ensures.matches in
+    (subst (λ (p : Page). AreMatches page_document (spot p c.args.element) c.self.inside.walk.walk.selectors
+    c.matching.new.indices.items) c.self.invariant.1 c.in_ok-matching.ensures.matches) in
     let same = c.self.invariant.2 ∙ ap (λ (v : StylesText). v.rules) c.self.view_is in
     then-ok c.winners_named.result
     (λ won. (
@@ -47,4 +50,7 @@ returns-clause-tests c =
     (λ found. subst (λ (v : StylesText). (tried : List ℕ)
     × AreTried page_document (spot v.page c.args.element) (reported_of (spot v.page c.args.element))
     c.matching.new.self.walk tried c.args.tests.now c.matching.new.tests)
-    c.self.view_is c.in_ok-matching.ensures.tests) c.winners_named.ensures.winners
+    c.self.view_is (subst (λ (p : Page). (tried : List ℕ)
+    × AreTried page_document (spot p c.args.element) (reported_of (spot p c.args.element))
+    c.matching.new.self.walk tried c.args.tests.now c.matching.new.tests)
+    c.self.invariant.1 c.in_ok-matching.ensures.tests)) c.winners_named.ensures.winners

@@ -1,17 +1,23 @@
-use Rattle.std.proofs.Common.{◌<◌, IfSome, length, sym, subst}
-use Rattle.css_tree.specs.Walks.{IsOpenAt}
+use Rattle.std.proofs.Common.{ℕ, length, ap, ◌∙◌, subst}
+use Rattle.std.proofs.lemmas.Result.{on_ok_weaker}
+use Rattle.css_matching.specs.ListTrees.{spot}
+use Rattle.css_index.specs.Tested.{AreTried}
+use Rattle.css_elements.proofs.Walking.{node_is}
+use Rattle.css_tree.specs.Pages.{Page, page_document}
+use Rattle.css_tree.specs.Reports.{reported_of}
+use Rattle.css_tree.specs.Walks.{PageWalk}
 use Rattle.css_tree.proofs.tree_walk.TreeWalk.matching.Goals as goal
 
-pub close_to-requires-clause-opened : goal.close_to-requires-clause-opened
-close_to-requires-clause-opened c =
-    subst (λ w. IsOpenAt c.args.page.now w.walk w.place) (sym c.self.view_is) c.requires.opened
-
-pub find_way-requires-clause-from : goal.find_way-requires-clause-from
-find_way-requires-clause-from c =
-    subst (λ page. IfSome c.self.inside.opened.place (λ i. i < length page.rows)) (sym c.page.view_is)
-    (subst (λ w. IfSome w.place (λ i. i < length c.args.page.now.rows)) (sym c.self.view_is)
-    c.requires.opened.within)
-
-pub returns-in_err-above-clause-opened : goal.returns-in_err-above-clause-opened
-returns-in_err-above-clause-opened c =
-    subst (λ w. IsOpenAt c.args.page.now w.walk w.place) (sym c.self.view_is) c.requires.opened
+pub returns-clause-tests : goal.returns-clause-tests
+returns-clause-tests c =
+    let page = c.self.inside.page.now in
+    let same =
+    node_is page (length page.rows) c.args.element c.node.result c.unwrap-node.result c.unwrap-node.ensures
+    c.node.ensures
+    ∙ ap (λ (w : PageWalk). spot w.page c.args.element) c.self.view_is in
+    on_ok_weaker c.matching.result
+    (λ tried. (
+      c.matching.new.tried.items,
+      subst (λ (n : Page × ℕ). AreTried page_document n (reported_of n) c.open_all.new.self.walk
+          c.matching.new.tried.items c.args.tests.now c.matching.new.tests) same tried,
+    )) c.matching.ensures.tried

@@ -1,10 +1,23 @@
 use Rattle.std.proofs.Common.{List, MatchResult, map, string_bytes, None, Some, ap, sym, subst, ◌∙◌}
 use Rattle.std.proofs.lemmas.List.{map-id}
 use Rattle.css_selector_text.specs.Components.{Selector}
+use Rattle.css_tree.specs.Answered.{IsMarkedFor}
 use Rattle.call_answers.specs.Calls.{FailsLonger}
 use Rattle.page_calls.specs.ModernLines.{AreModernLines}
 use Rattle.page_calls.specs.Readings.{selector_as}
 use Rattle.page_calls.proofs.modern.pages.lines.Goals as goal
+
+pub lines_as_written-requires-clause-marked : goal.lines_as_written-requires-clause-marked
+lines_as_written-requires-clause-marked c =
+    subst (λ (selectors : List Selector). IsMarkedFor selectors c.args.page.now)
+    (ap (λ reading. map (selector_as reading) c.args.selectors.now) c.in-AsWritten.is ∙ map-id c.args.selectors.now)
+    c.requires.marked
+
+pub lines_as_written-requires-in-Html-clause-marked : goal.lines_as_written-requires-in-Html-clause-marked
+lines_as_written-requires-in-Html-clause-marked c =
+    subst (λ (selectors : List Selector). IsMarkedFor selectors c.args.page.now)
+    (ap (λ reading. map (selector_as reading) c.args.selectors.now) c.in-Html.is
+    ∙ sym (c.deref.ensures.value ∙ c.in_ok-selectors-in-Html.ensures)) c.requires.marked
 
 pub returns-in-AsWritten : goal.returns-in-AsWritten
 returns-in-AsWritten c =

@@ -11,10 +11,10 @@ use Rattle.page_calls.proofs.modern.pages.push_line.Goals as goal
 
 -- the indices are those of the selectors that match the element
 found : (c : After-as_slice)
-    → AreMatches page_document (spot c.args.page.now c.args.element) c.args.walk.now.walk.selectors
+    → AreMatches page_document (spot c.args.walk.now.page c.args.element) c.args.walk.now.walk.selectors
     c.as_slice.result.now
 found c =
-    subst (AreMatches page_document (spot c.args.page.now c.args.element)
+    subst (AreMatches page_document (spot c.args.walk.now.page c.args.element)
     c.args.walk.now.walk.selectors) (sym c.as_slice.ensures.value) c.in_ok-matching.ensures.matches
 
 pub push_indices-requires : goal.push_indices-requires

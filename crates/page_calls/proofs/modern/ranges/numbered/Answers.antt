@@ -6,8 +6,15 @@ use Rattle.css_selectors.specs.Numberings.{NumberingText, numbered_selectors}
 use Rattle.call_answers.specs.Calls.{FailsLonger}
 use Rattle.page_calls.specs.MarkedPages.{AreOnMarked}
 use Rattle.page_calls.specs.Ranges.{AreNumbered, AreNumbersOn}
+use Rattle.css_tree.proofs.AnsweredLemmas.{numbered-answered}
 use Rattle.page_calls.proofs.MarkCalls.{without-lists}
 use Rattle.page_calls.proofs.modern.ranges.numbered.Goals as goal
+
+pub marked_numbers-requires : goal.marked_numbers-requires
+marked_numbers-requires c =
+    numbered-answered c.new-numbering.result c.number_all.new.self c.args.selectors.items
+    c.in_ok-selectors.selectors.items c.deref.result.now c.lists.result.now c.new-numbering.ensures.lists
+    c.new-numbering.ensures.numbers c.in_ok-selectors.ensures c.deref.ensures.value c.lists.ensures
 
 pub returns-clause-answer : goal.returns-clause-answer
 returns-clause-answer c =

@@ -1,6 +1,8 @@
-use Rattle.std.proofs.Common.{List, MatchResult, None, Some, subst, ◌∙◌}
+use Rattle.std.proofs.Common.{List, MatchResult, None, Some, refl, sym, subst, ◌∙◌}
 use Rattle.std.proofs.lemmas.List.{map-id}
 use Rattle.css_selector_text.specs.Components.{Selector}
+use Rattle.css_tree.specs.Answered.{IsMarkedFor}
+use Rattle.css_tree.specs.Pages.{Page}
 use Rattle.call_answers.specs.Calls.{FailsLonger}
 use Rattle.page_calls.specs.Ranges.{AreNumbersIn}
 use Rattle.call_answers.proofs.PageLines.{memory_due}
@@ -12,12 +14,19 @@ returns-in_err-walk c =
     memory_due (λ numbers. are (Some numbers.items)) (are None) c.from_residual.result
     c.from_residual.ensures.1
 
-pub numbers_by-requires : goal.numbers_by-requires
-numbers_by-requires c = c.in_ok-walk.ensures.opened c.args.page.now
+pub new-requires : goal.new-requires
+new-requires c = λ lifetimes. (
+  (refl, (refl, tt)),
+  subst (λ (selectors : List Selector). IsMarkedFor selectors c.args.page.now) (sym (map-id c.args.selectors.now))
+      c.requires,
+)
 
 pub returns : goal.returns
 returns c =
-    subst (λ (selectors : List Selector). MatchResult c.numbers_by.result
-    (λ numbers. AreNumbersIn c.args.most c.args.range selectors c.args.page.now (Some numbers.items))
-    (FailsLonger (AreNumbersIn c.args.most c.args.range selectors c.args.page.now None)))
-    (c.in_ok-walk.ensures.selectors ∙ map-id c.args.selectors.now) c.numbers_by.ensures
+    subst (λ (page : Page). MatchResult c.numbers_by.result
+    (λ numbers. AreNumbersIn c.args.most c.args.range c.args.selectors.now page (Some numbers.items))
+    (FailsLonger (AreNumbersIn c.args.most c.args.range c.args.selectors.now page None))) c.in_ok-walk.ensures.page
+    (subst (λ (selectors : List Selector). MatchResult c.numbers_by.result
+    (λ numbers. AreNumbersIn c.args.most c.args.range selectors c.in_ok-walk.walk.page (Some numbers.items))
+    (FailsLonger (AreNumbersIn c.args.most c.args.range selectors c.in_ok-walk.walk.page None)))
+    (c.in_ok-walk.ensures.selectors ∙ map-id c.args.selectors.now) c.numbers_by.ensures)

@@ -6,21 +6,25 @@ use Rattle.page_calls.proofs.modern.ranges.numbers_by.Goals as goal
 
 pub returns-in_err-push_number : goal.returns-in_err-push_number
 returns-in_err-push_number c =
-    let are = AreNumbersIn c.args.most c.args.range c.args.walk.now.walk.selectors c.args.page.now in
+    let are = AreNumbersIn c.args.most c.args.range c.args.walk.now.walk.selectors c.args.walk.now.page in
     memory_due (λ numbers. are (Some numbers.items)) (are None) c.from_residual.result
     c.from_residual.ensures.1
 
 -- the numbers up to this element are too many
 pub returns-in_err-check_count : goal.returns-in_err-check_count
 returns-in_err-check_count c =
-    let page = c.args.page.now in
+    let page = c.args.walk.now.page in
     let selectors = c.args.walk.now.walk.selectors in
     let Is : ℕ → List ℕ → Type 0 = λ index. IsNumberAt selectors page (c.args.range.from + index) in
     let are = AreNumbersIn c.args.most c.args.range selectors page in
-    let added = subst (λ ss. (numbers : List ℕ)
-    × IsNumberAt ss page (c.args.range.from + c.loop-index.index) numbers
+    let added = subst (λ p. (numbers : List ℕ)
+    × IsNumberAt c.args.walk.now.walk.selectors p (c.args.range.from + c.loop-index.index) numbers
     × (c.push_number.new.out.items ≡ c.loop-index.numbers.items ++ numbers))
-    c.loop-index.invariant.selectors c.in_ok-push_number.ensures.written in
+    c.loop-index.invariant.page
+    (subst (λ ss. (numbers : List ℕ)
+    × IsNumberAt ss c.loop-index.walk.page (c.args.range.from + c.loop-index.index) numbers
+    × (c.push_number.new.out.items ≡ c.loop-index.numbers.items ++ numbers))
+    c.loop-index.invariant.selectors c.in_ok-push_number.ensures.written) in
     longer_due (λ numbers. are (Some numbers.items)) c.args.most Is (c.loop-index.index + 1)
     (count_in c.args.range (length page.rows)) c.push_number.new.out.items
     (lines_more c.loop-index.invariant.lines.so_far added.0 c.push_number.new.out.items added.1
@@ -31,23 +35,27 @@ returns-in_err-check_count c =
 -- the number of one more element
 pub loop-index-preserved : goal.loop-index-preserved
 loop-index-preserved c =
-    let added = subst (λ ss. (numbers : List ℕ)
-    × IsNumberAt ss c.args.page.now (c.args.range.from + c.loop-index.index) numbers
+    let added = subst (λ p. (numbers : List ℕ)
+    × IsNumberAt c.args.walk.now.walk.selectors p (c.args.range.from + c.loop-index.index) numbers
     × (c.push_number.new.out.items ≡ c.loop-index.numbers.items ++ numbers))
-    c.loop-index.invariant.selectors c.in_ok-push_number.ensures.written in
+    c.loop-index.invariant.page
+    (subst (λ ss. (numbers : List ℕ)
+    × IsNumberAt ss c.loop-index.walk.page (c.args.range.from + c.loop-index.index) numbers
+    × (c.push_number.new.out.items ≡ c.loop-index.numbers.items ++ numbers))
+    c.loop-index.invariant.selectors c.in_ok-push_number.ensures.written) in
     record {
       lines = record {
         so_far = lines_more c.loop-index.invariant.lines.so_far added.0
             c.push_number.new.out.items added.1 added.2;
         short = c.in_ok-check_count.ensures;
       };
-      opened = c.in_ok-push_number.ensures.opened;
+      page = c.in_ok-push_number.ensures.page ∙ c.loop-index.invariant.page;
       selectors = c.in_ok-push_number.ensures.selectors ∙ c.loop-index.invariant.selectors;
     }
 
 pub returns : goal.returns
 returns c =
-    let page = c.args.page.now in
+    let page = c.args.walk.now.page in
     let Is : ℕ → List ℕ → Type 0 = λ index. IsNumberAt c.args.walk.now.walk.selectors page (c.args.range.from + index) in
     lines_done c.args.most Is c.loop-index.index (count_in c.args.range (length page.rows)) c.loop-index.numbers.items
     c.loop-index.invariant.lines (omega arith)

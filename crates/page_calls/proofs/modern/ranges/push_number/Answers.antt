@@ -23,7 +23,7 @@ unmatched selectors page element indices are none =
 pub returns-in_ok-push-clause-written : goal.returns-in_ok-push-clause-written
 returns-in_ok-push-clause-written c = (
   (c.args.element + 1) ∷ [],
-  matched c.args.walk.now.walk.selectors c.args.page.now c.args.element c.matching.new.indices.items
+  matched c.args.walk.now.walk.selectors c.args.walk.now.page c.args.element c.matching.new.indices.items
       c.in_ok-matching.ensures.matches (search rules),
   c.in_ok-push.ensures.items,
 )
@@ -31,7 +31,7 @@ returns-in_ok-push-clause-written c = (
 pub returns-else-not-is_empty-clause-written : goal.returns-else-not-is_empty-clause-written
 returns-else-not-is_empty-clause-written c = (
   [],
-  unmatched c.args.walk.now.walk.selectors c.args.page.now c.args.element c.matching.new.indices.items
+  unmatched c.args.walk.now.walk.selectors c.args.walk.now.page c.args.element c.matching.new.indices.items
       c.in_ok-matching.ensures.matches (search rules),
   search rules,
 )

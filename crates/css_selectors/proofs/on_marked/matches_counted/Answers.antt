@@ -1,11 +1,11 @@
 use Rattle.std.proofs.Common.{sym, ◌∙◌}
 use Rattle.css_selector_text.specs.Views.{pseudo_element_of}
 use Rattle.css_selectors.proofs.PartLemmas.{matched, matched_within, none_mapped}
-use Rattle.css_selectors.proofs.matching.SelectorMatching.matches_counted.Goals as goal
+use Rattle.css_selectors.proofs.on_marked.matches_counted.Goals as goal
 
 pub returns-clause-answer : goal.returns-clause-answer
 returns-clause-answer g c =
-    matched g.E.Element.document c.args.self.now c.parts.result.now
+    matched g.E.Element.document c.args.selector.now c.parts.result.now
     (g.E.Element.node c.args.element.now)
     (sym c.parts.ensures.same) c.is_placed.result
     (sym c.pseudo_element.ensures
@@ -14,7 +14,7 @@ returns-clause-answer g c =
 
 pub returns-clause-at_most : goal.returns-clause-at_most
 returns-clause-at_most g c =
-    matched_within g.E.Element.document c.args.self.now c.parts.result.now
+    matched_within g.E.Element.document c.args.selector.now c.parts.result.now
     (g.E.Element.node c.args.element.now)
     (sym c.parts.ensures.same) _ _
     c.is_placed.ensures.bounded
