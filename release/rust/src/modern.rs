@@ -312,7 +312,7 @@ fn expect_few(selectors: &[Selector<'_>], elements: usize, most: usize) -> Resul
 
 /// Whether a selector matches an element of a page that is marked with its lists.
 fn is_matched<E: Element>(selector: &css_selectors::Selector<'_>, element: &E) -> bool {
-    selector.matches_counted(element, &mut css_matching::Tests::new())
+    css_selectors::on_marked::matches_counted(selector, element, &mut css_matching::Tests::new())
 }
 
 /// Returns the indices at which it is so.
@@ -471,7 +471,7 @@ impl<'a> Sheet<'a> {
     /// [`Page::styles`].
     pub fn index(&self) -> Result<Index<'_, 'a>, NeedsPage> {
         Ok(Index {
-            index: done(css_index::SelectorIndex::new(Global, self.of_elements()?)),
+            index: done(css_index::SelectorIndex::new(Global, self.rules.as_slice())).ok_or(NeedsPage)?,
             indices: crate::rattle_std::vec::Vec::new(Global),
         })
     }
@@ -480,7 +480,7 @@ impl<'a> Sheet<'a> {
     /// [`Page::styles`].
     pub fn walk(&self) -> Result<Walk<'_, 'a>, NeedsPage> {
         Ok(Walk {
-            walk: done(css_index::SelectorWalk::new(Global, self.of_elements()?)),
+            walk: done(css_index::SelectorWalk::new(Global, self.rules.as_slice())).ok_or(NeedsPage)?,
             tried: crate::rattle_std::vec::Vec::new(Global),
             indices: crate::rattle_std::vec::Vec::new(Global),
         })
@@ -893,7 +893,7 @@ pub struct Styles<'d, 'p, 't, 's, 'a, 'w> {
     styles: Option<css_styles::Styles<'d, 'a, 'w, 'p, 't>>,
     found: crate::rattle_std::vec::Vec<Winner<'a>>,
     /// What finds rules, once they are asked for.
-    walk: Option<css_tree::TreeWalk<'s, 'w>>,
+    walk: Option<css_tree::TreeWalk<'d, 'w, 'p, 't>>,
     indices: crate::rattle_std::vec::Vec<usize>,
 }
 
@@ -934,14 +934,14 @@ impl<'d, 'p, 't, 's: 'd, 'a: 'w, 'w> Styles<'d, 'p, 't, 's, 'a, 'w> {
     /// the selector before that matches. Panics if there is no element at the index.
     pub fn matching(&mut self, index: usize) -> &[usize] {
         self.expect(index);
-        let (rules, selectors) = (self.rules.as_slice(), self.selectors);
+        let (page, rules, selectors) = (self.page, self.rules, self.selectors);
         let walk = self.walk.get_or_insert_with(|| {
             done(match selectors {
-                None => css_tree::TreeWalk::new(Global, rules),
-                Some(selectors) => css_tree::TreeWalk::new(Global, selectors),
+                None => rules.walk(Global, page),
+                Some(selectors) => rules.walk_in_html(Global, selectors, page),
             })
         });
-        done(walk.matching(self.page, index, &mut self.indices, &mut css_matching::Tests::new()));
+        done(walk.matching(index, &mut self.indices, &mut css_matching::Tests::new()));
         &self.indices
     }
 

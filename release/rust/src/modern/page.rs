@@ -2,8 +2,9 @@
 use super::{short, Element, Keyed, NamespacedAttribute, Own, Selector, Sheet, TooManyAnswers, Winner};
 use crate::done;
 use crate::erased::css_matching::Tests;
+use crate::erased::css_selectors::on_marked::{matches_any, meets};
 use crate::erased::css_selectors::{
-    self, matches_any, meets, Combinator, Complex, ListTest, MarkedList, Part, Progression,
+    self, Combinator, Complex, ListTest, MarkedList, Part, Progression,
 };
 use crate::erased::{css_index, css_styles};
 use crate::rattle_std::alloc::Global;
@@ -174,7 +175,7 @@ impl<E: Element> Page<E> {
             page: self,
             lists: self.answers(sheet.rules.lists(), most)?,
             rules: &sheet.rules,
-            walk: done(css_index::SelectorWalk::new(Global, sheet.rules.as_slice())),
+            walk: done(css_index::SelectorWalk::on_marked(Global, sheet.rules.as_slice())),
             open: Vec::new(),
             last: None,
             tried: ProvedVec::new(Global),
