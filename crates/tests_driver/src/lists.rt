@@ -1,9 +1,14 @@
 //! Lists of selectors on a tree.
 
+ghost use Rattle.std.specs.Prelude.{All, IfOk, OnOk, length};
+ghost use Rattle.css_tree.specs.Answered.{IsMarkedFor, SelectorIsAnswered};
+ghost use Rattle.css_tree.specs.Marks.{AreMarked};
+
 use crate::tree::{mark_texts, read_tree};
 use css_elements::Tree;
-use css_index::{HasSelector, SelectorIndex};
-use css_selectors::{Element, Matching, Nesting, Numbering, Selector, Specificity, Tests};
+use css_index::SelectorIndex;
+use css_selectors::on_marked::matches_counted;
+use css_selectors::{Element, Nesting, Numbering, Selector, Specificity, Tests};
 use css_tree::{NumberedTree, TreeWalk};
 use std::alloc::Global;
 use std::io;
@@ -11,7 +16,7 @@ use std::io::{ErrorKind, Write};
 
 /// Whether one of the selectors matches the element.
 fn is_matched<E: Element>(selectors: &[Selector<'_>], element: &E) -> bool {
-    selectors.iter().any(|selector| selector.matches_counted(element, &mut Tests::new()))
+    selectors.iter().any(|selector| matches_counted(selector, element, &mut Tests::new()))
 }
 
 /// Writes what the selectors match.
@@ -45,11 +50,9 @@ fn write_printed<W: Write>(out: &mut W, selectors: &[Selector<'_>]) -> io::Resul
 }
 
 /// Answers on a page the lists that selectors ask by numbers.
-fn mark(
-    alloc: Global,
-    page: &mut NumberedTree<'_, '_>,
-    numbering: &Numbering<'_>,
-) -> io::Result<()> {
+fn mark(alloc: Global, page: &mut NumberedTree<'_, '_>, numbering: &Numbering<'_>) -> io::Result<()>
+    ensures { OnOk result (AreMarked numbering.now.lists page.new) }
+{
     match page.mark(alloc, numbering.lists(), usize::MAX) {
         Ok(()) => Ok(()),
         Err(_) => Err(io::Error::from(ErrorKind::OutOfMemory)),
@@ -132,47 +135,42 @@ fn write_matched<W: Write>(
     Ok(())
 }
 
-/// A selector, and the number of its list.
+/// Selectors with numbers, the number of the list of each, and what they ask by numbers.
 #[derive(Drop)]
 struct Listed<'a> {
-    selector: Selector<'a>,
-    list: usize,
+    selectors: Vec<Selector<'a>>,
+    lists: Vec<usize>,
+    numbering: Numbering<'a>,
 }
 
-impl<'a> HasSelector<'a> for Listed<'a> {
-    ghost selector_in = { λ listed. listed.selector };
-
-    fn selector(&self) -> &Selector<'a> {
-        &self.selector
-    }
-}
-
-/// Returns the selectors of the lists that are not refused, with numbers, after what they ask by these is
-/// answered on a page.
-fn read_listed<'a>(
-    alloc: Global,
-    page: &mut NumberedTree<'_, '_>,
-    lists: &'a str,
-) -> io::Result<Vec<Listed<'a>>> {
-    let mut numbering = Numbering::new(alloc);
-    let mut all = Vec::new(alloc);
-    for (list, text) in lists.split('\0').enumerate() {
+/// Returns the selectors of the lists that are not refused, with numbers.
+fn read_listed<'a>(alloc: Global, texts: &'a str) -> io::Result<Listed<'a>>
+    ensures { IfOk result (λ all. All (SelectorIsAnswered (length all.numbering.lists)) all.selectors.items) }
+{
+    let mut read = Vec::new(alloc);
+    let mut lists = Vec::new(alloc);
+    for (list, text) in texts.split('\0').enumerate() {
         if let Ok(selectors) = Selector::parse_list(alloc, text) {
             for selector in selectors {
-                let selector = numbering.number(alloc, selector)?;
-                all.push(Listed { selector, list })?;
+                read.push(selector)?;
+                lists.push(list)?;
             }
         }
     }
-    mark(alloc, page, &numbering)?;
-    Ok(all)
+    let mut numbering = Numbering::new(alloc);
+    let selectors = numbering.number_all(alloc, read)?;
+    Ok(Listed {
+        selectors,
+        lists,
+        numbering,
+    })
 }
 
 /// Writes the numbers of the lists that the selectors with these indices are of, from 0 on, and a NUL
 /// byte.
-fn write_lists<W: Write>(out: &mut W, all: &[Listed<'_>], indices: &[usize]) -> io::Result<()> {
-    for listed in indices.iter().filter_map(|index| all.get(*index)) {
-        write!(out, " {}", listed.list)?;
+fn write_lists<W: Write>(out: &mut W, lists: &[usize], indices: &[usize]) -> io::Result<()> {
+    for list in indices.iter().filter_map(|index| lists.get(*index)) {
+        write!(out, " {list}")?;
     }
     out.write_all(b"\x00")
 }
@@ -183,15 +181,15 @@ fn write_indexed<W: Write>(
     alloc: Global,
     out: &mut W,
     page: &NumberedTree<'_, '_>,
-    all: &[Listed<'_>],
+    all: &Listed<'_>,
 ) -> io::Result<()> {
-    let index = SelectorIndex::new(alloc, all)?;
+    let index = SelectorIndex::on_marked(alloc, all.selectors.as_slice())?;
     let mut indices = Vec::new(alloc);
     for number in 0..page.len() {
         if let Some(element) = page.node(number) {
             index.matching(&element, &mut indices)?;
         }
-        write_lists(out, all, indices.as_slice())?;
+        write_lists(out, all.lists.as_slice(), indices.as_slice())?;
     }
     Ok(())
 }
@@ -201,13 +199,15 @@ fn write_walked<W: Write>(
     alloc: Global,
     out: &mut W,
     page: &NumberedTree<'_, '_>,
-    all: &[Listed<'_>],
-) -> io::Result<()> {
-    let mut walk = TreeWalk::new(alloc, all)?;
+    all: &Listed<'_>,
+) -> io::Result<()>
+    requires { IsMarkedFor all.now.selectors.items page.now }
+{
+    let mut walk = TreeWalk::new(alloc, all.selectors.as_slice(), page)?;
     let mut indices = Vec::new(alloc);
-    for element in 0..page.len() {
-        walk.matching(page, element, &mut indices, &mut Tests::new())?;
-        write_lists(out, all, indices.as_slice())?;
+    for element in 0..walk.element_count() {
+        walk.matching(element, &mut indices, &mut Tests::new())?;
+        write_lists(out, all.lists.as_slice(), indices.as_slice())?;
     }
     Ok(())
 }
@@ -236,12 +236,14 @@ pub(crate) fn write_on_tree<W: Write>(
     match search {
         Search::Each => write_matched(alloc, out, &mut page, lists),
         Search::Index => {
-            let all = read_listed(alloc, &mut page, lists)?;
-            write_indexed(alloc, out, &page, all.as_slice())
+            let all = read_listed(alloc, lists)?;
+            mark(alloc, &mut page, &all.numbering)?;
+            write_indexed(alloc, out, &page, &all)
         }
         Search::Walk => {
-            let all = read_listed(alloc, &mut page, lists)?;
-            write_walked(alloc, out, &page, all.as_slice())
+            let all = read_listed(alloc, lists)?;
+            mark(alloc, &mut page, &all.numbering)?;
+            write_walked(alloc, out, &page, &all)
         }
     }
 }

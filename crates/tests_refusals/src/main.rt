@@ -335,7 +335,9 @@ fn found_selectors(
     selectors: &[ModernSelector<'_>],
     page: &NumberedTree<'_, '_>,
 ) -> Result<usize, AllocError> {
-    let index = SelectorIndex::new(alloc, selectors)?;
+    let Some(index) = SelectorIndex::new(alloc, selectors)? else {
+        return Ok(0);
+    };
     let mut indices = Vec::new(alloc);
     let mut sum = 0_usize;
     for node_index in 0..page.len() {

@@ -1,5 +1,7 @@
 //! What walks along a tree find.
-use css_selectors::{Selector as ModernSelector, Tests as ModernTests};
+ghost use Rattle.std.specs.Prelude.{◌≡◌, []};
+
+use css_selectors::{Selector as ModernSelector, Tests as ModernTests, some_needs_page};
 use css_tree::{NumberedTree, TreeWalk};
 use simplecss::{Rule, Tests};
 use simplecss_tree::{RuleWalk, Tree};
@@ -30,17 +32,23 @@ pub(crate) fn found_rules(
     Ok(sum)
 }
 
-/// Returns the sum of the numbers of the selectors that a walk finds for each element of the page.
+/// Returns the sum of the numbers of the selectors that a walk finds for each element of the page, or 0 if one needs
+/// marks.
 pub(crate) fn found_selectors(
     alloc: Global,
     selectors: &[ModernSelector<'_>],
     page: &NumberedTree<'_, '_>,
-) -> Result<usize, AllocError> {
-    let mut walk = TreeWalk::new(alloc, selectors)?;
+) -> Result<usize, AllocError>
+    requires { page.now.marks ≡ [] }
+{
+    if some_needs_page(selectors) {
+        return Ok(0);
+    }
+    let mut walk = TreeWalk::new(alloc, selectors, page)?;
     let mut indices = Vec::new(alloc);
     let mut sum = 0_usize;
-    for element in 0..page.len() {
-        walk.matching(page, element, &mut indices, &mut ModernTests::new())?;
+    for element in 0..walk.element_count() {
+        walk.matching(element, &mut indices, &mut ModernTests::new())?;
         sum = sum.saturating_add(sum_of(indices.as_slice()));
     }
     Ok(sum)

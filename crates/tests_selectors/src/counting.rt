@@ -2,6 +2,7 @@
 
 use css_elements::Tree;
 use css_index::{Keyed, SelectorIndex};
+use css_selectors::on_marked::matches_counted;
 use css_selectors::{Element, Matching, NamespacedAttribute, Selector, Tests};
 use css_sheet::{SheetRule, read_sheet};
 use css_tree::{NumberedNode, NumberedTree};
@@ -157,7 +158,7 @@ fn counts_tests(rt: HostRuntime) -> Result<(), Fail> {
                 names: &names,
             };
             let found = if is_counted {
-                selector.matches_counted(&element, &mut Tests::new())
+                matches_counted(&selector, &element, &mut Tests::new())
             } else {
                 selector.matches(&element) == Some(true)
             };
@@ -192,7 +193,7 @@ fn tests_of(
         node,
         names: &names,
     };
-    let index = SelectorIndex::new(alloc, rules)?;
+    let index = SelectorIndex::new(alloc, rules)?.ok_or("a page is needed")?;
     index.matching(&element, &mut Vec::new(alloc))?;
     Ok(names.get())
 }

@@ -2,9 +2,8 @@
 //! of pseudo-classes that are answered for all elements at once.
 
 use css_elements::Tree;
-use css_selectors::{
-    Element, MarkedList, Matching, Nesting, Numbering, Selector, Specificity, Tests,
-};
+use css_selectors::on_marked::matches_counted;
+use css_selectors::{Element, MarkedList, Nesting, Numbering, Selector, Specificity, Tests};
 use css_tree::{MarkingError, NumberedTree};
 use std::alloc::Global;
 use std::test::Fail;
@@ -124,7 +123,7 @@ fn answers_each_list(rt: HostRuntime) -> Result<(), Fail> {
 /// Whether one of the selectors matches the element.
 fn is_matched<E: Element>(selectors: &[Selector<'_>], element: &E) -> bool {
     for selector in selectors {
-        if selector.matches_counted(element, &mut Tests::new()) {
+        if matches_counted(selector, element, &mut Tests::new()) {
             return true;
         }
     }

@@ -1,6 +1,6 @@
-use Rattle.css_tree.specs.Walks.{IsOpenAt}
+use Rattle.std.proofs.Common.{◌≡◌}
 use Rattle.tests_driver.proofs.lists.write_walked.Given as goal
 
--- the walk is open along the page
+-- the page stays
 abbrev pub invariant-loop-element : goal.invariant-loop-element
-invariant-loop-element g l = IsOpenAt l.page l.walk.walk l.walk.place
+invariant-loop-element g l = l.walk.page ≡ l.page
