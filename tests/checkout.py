@@ -699,7 +699,7 @@ class Drawing(Checkout):
     def printed(self, name: str, drawing: bytes) -> str:
         """What an example prints of a drawing."""
         words = ["run", "-q", "--features", "modern", "--example", name]
-        return self.cargo(words, self.package, name, input=drawing, timeout=100).stdout.decode()
+        return self.cargo(words, self.package, name, input=drawing, timeout=250).stdout.decode()
 
     def test_port(self) -> None:
         lines = self.printed("drawing", DRAWING).splitlines()
