@@ -182,7 +182,7 @@ class Beside(Case):
             is_open(text) or is_nested(text) or any(map(ODD_IN_SOUP.search, (text, plain(text))))
         )
         # HTML compares more values without case than soupsieve does.
-        is_odd = is_odd or not root._is_xml and "lang" in text
+        is_odd = is_odd or not root._is_xml and "lang" in plain(text).lower()
         ours, theirs = answers_of(sieve, text, root, tag), answers_of(soupsieve, text, root, tag)
         for (name, found), (_, due) in zip(ours, theirs):
             if is_odd or found is None or due is None:
