@@ -228,7 +228,7 @@ int main(int count, char **words) {
     if (status != SIMPLECSS_DONE && len != 0)
         return 1;
     const size_t written = status == SIMPLECSS_DONE ? len : 0;
-    const int counts = call == 1 || call == 14 || call == 17 || call == 44 || call == 11 || call == 12 || call == 21 || call == 22 || (call >= 26 && call <= 31) || call == 38 || call == 42 || call == 45 || call == 49 || call == 50 || call == 52 || call == 55 || call == 56 || call == 60;
+    const int counts = call == 1 || call == 14 || call == 17 || call == 44 || call == 11 || call == 12 || call == 21 || call == 22 || (call >= 26 && call <= 31) || call == 38 || call == 42 || call == 45 || call == 49 || call == 50 || call == 52 || call == 55 || call == 56;
     if (!is_unwritten(out + (counts ? 0 : written), sizeof out - (counts ? 0 : written)))
         return 1;
     if (!is_unwritten(numbers + (counts ? written : 0), sizeof numbers - (counts ? written : 0) * sizeof *numbers))
